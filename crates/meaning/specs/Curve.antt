@@ -1,0 +1,108 @@
+-- Stall: the raw stall of one interval, its envelope given by corners, and the interval's stall.
+use mathlib.Core.Path.{_≡_}
+use mathlib.Core.Bool.{cond}
+use mathlib.Core.List.{List, [], _∷_, map}
+use Prim.Native.Nat.{ℕ, zero, suc, _+_, _-_, _*_, _≤_, _<_, min}
+use lib.ListN.{length}
+use lib.Dec.{ltb, leb}
+use Rattle.meaning.specs.Fraction.{Fraction, whole, _≤ᶠ_, _<ᶠ_}
+use Rattle.meaning.specs.Plan.{budgetOf}
+
+-- the budgets of the other cores; the core is counted from 0 here
+unfoldable pub others : ℕ → List ℕ → List ℕ
+others i [] = []
+others zero (b ∷ bs) = bs
+others (suc i) (b ∷ bs) = b ∷ others i bs
+
+-- the sum of the smaller of r and each budget
+unfoldable pub sumOfSmaller : ℕ → List ℕ → ℕ
+sumOfSmaller r [] = 0
+sumOfSmaller r (b ∷ bs) = min r b + sumOfSmaller r bs
+
+-- raw stall at r requests (004, equation 2): the sum over the other cores of the smaller of r and that core's budget; at r = q it is Q - q
+unfoldable pub raw : ℕ → List ℕ → ℕ → ℕ → ℕ
+raw perPeriod row core r =
+    cond (ltb r (budgetOf core row)) (sumOfSmaller r (others (core - 1) row)) (perPeriod - budgetOf core row)
+
+-- a corner: a whole rate, and the stall there
+pub record Corner : Type 0 where
+  pub rate : ℕ
+  pub stall : ℕ
+
+-- a curve: its first corner, and the rest of them in order
+pub record Curve : Type 0 where
+  pub first : Corner
+  pub rest : List Corner
+
+-- the last of a corner and those that follow it
+abbrev pub lastOf : Corner → List Corner → Corner
+lastOf a [] = a
+lastOf a (b ∷ cs) = lastOf b cs
+
+-- the largest rate of a curve: the core's budget q
+abbrev pub limit : Curve → ℕ
+limit c = lastOf (c .first) (c .rest) .rate
+
+-- the number of corners
+abbrev pub count : Curve → ℕ
+count c = suc (length (c .rest))
+
+-- the corners' rates in order
+abbrev pub rates : Curve → List ℕ
+rates c = c .first .rate ∷ map (λ (b : Corner). b .rate) (c .rest)
+
+-- the slope of the segment from a to b
+abbrev pub slope : Corner → Corner → Fraction
+slope a b = record { num = b .stall - a .stall; den = b .rate - a .rate }
+
+-- on the segment from a to b, for w periods and x requests: w·raw(a) + (x - w·a)·(raw(b) - raw(a))/(b - a)
+abbrev pub onSegment : Corner → Corner → ℕ → ℕ → Fraction
+onSegment a b w x =
+    record {
+      num = w * a .stall * (b .rate - a .rate) + (x - w * a .rate) * (b .stall - a .stall);
+      den = b .rate - a .rate;
+    }
+
+-- each corner is a point of the raw stall
+abbrev pub OnRaw : (ℕ → ℕ) → Corner → List Corner → Type 0
+OnRaw stallAt a [] = a .stall ≡ stallAt (a .rate)
+OnRaw stallAt a (b ∷ cs) = (a .stall ≡ stallAt (a .rate)) × OnRaw stallAt b cs
+
+-- a rising list
+abbrev pub Rising : Corner → List Corner → Type 0
+Rising a [] = Unit {0}
+Rising a (b ∷ cs) = (a .rate < b .rate) × Rising b cs
+
+-- the slopes strictly fall
+abbrev pub Falling : Corner → List Corner → Type 0
+Falling a [] = Unit {0}
+Falling a (b ∷ []) = Unit {0}
+Falling a (b ∷ c ∷ cs) = (slope b c <ᶠ slope a b) × Falling b (c ∷ cs)
+
+-- the segments have the raw stall of every whole r on or under them
+abbrev pub Covering : (ℕ → ℕ) → Corner → List Corner → Type 0
+Covering stallAt a [] = Unit {0}
+Covering stallAt a (b ∷ cs) =
+    ((r : ℕ) → a .rate ≤ r → r ≤ b .rate → whole (stallAt r) ≤ᶠ onSegment a b 1 r) × Covering stallAt b cs
+
+-- the corners of the envelope of a raw stall over 0..q: a rising list from 0 to q whose slopes strictly fall and whose segments have the raw stall of every whole r on or under them
+pub record Envelope (stallAt : ℕ → ℕ) (q : ℕ) (c : Curve) : Type 0 where
+  pub starts : c .first .rate ≡ 0
+  pub ends : limit c ≡ q
+  pub onRaw : OnRaw stallAt (c .first) (c .rest)
+  pub rising : Rising (c .first) (c .rest)
+  pub falling : Falling (c .first) (c .rest)
+  pub covering : Covering stallAt (c .first) (c .rest)
+
+-- the envelope of one interval's budgets for one core
+abbrev pub EnvelopeOf : ℕ → ℕ → List ℕ → Curve → Type 0
+EnvelopeOf perPeriod core row = Envelope (raw perPeriod row core) (budgetOf core row)
+
+-- the stall for w periods and x requests on the segment that covers x/w, from a on; a segment from a to b covers x/w when w·a ≤ x ≤ w·b
+unfoldable pub stallFrom : Corner → List Corner → ℕ → ℕ → Fraction
+stallFrom a [] w x = whole (w * a .stall)
+stallFrom a (b ∷ cs) w x = cond (leb x (w * b .rate)) (onSegment a b w x) (stallFrom b cs w x)
+
+-- the interval's stall for w periods and x requests: w times the envelope at x/w
+abbrev pub intervalStall : Curve → ℕ → ℕ → Fraction
+intervalStall c w x = stallFrom (c .first) (c .rest) w x

@@ -1,0 +1,10 @@
+pub mod Fraction
+pub mod Plan
+pub mod Curve
+pub mod Placement
+pub mod Span
+pub mod Run
+pub mod Refusals
+pub mod PlanFile
+pub mod Promises
+pub mod Listing

@@ -1,0 +1,82 @@
+-- Placement: shares of the intervals, placements, the greatest total stall, and the answered placement.
+use mathlib.Core.Path.{_≡_}
+use mathlib.Core.Logic.{_⊎_}
+use mathlib.Core.List.{List, [], _∷_}
+use Prim.Native.Nat.{ℕ, _-_, _*_, _≤_, _<_, min}
+use Rattle.meaning.specs.Fraction.{Fraction, whole, _≤ᶠ_, _+ᶠ_, roundUp}
+use Rattle.meaning.specs.Plan.{Plan, sumOf, rows}
+use Rattle.meaning.specs.Curve.{Curve, limit, EnvelopeOf, intervalStall}
+
+-- an interval's share w of the span, and its curve
+pub record Part : Type 0 where
+  pub share : ℕ
+  pub curve : Curve
+
+-- of W periods each interval gets its own length, or what is left of W, or 0 (004, equation 1): the one place where shares are made
+unfoldable pub shares : ℕ → List ℕ → List ℕ
+shares w [] = []
+shares w (l ∷ ls) = min l w ∷ shares (w - l) ls
+
+-- the parts are these shares with the envelopes of these budgets
+abbrev pub PartsOf : ℕ → ℕ → List ℕ → List (List ℕ) → List Part → Type 0
+PartsOf perPeriod core [] [] [] = Unit {0}
+PartsOf perPeriod core [] [] (p ∷ ps) = ⊥
+PartsOf perPeriod core [] (r ∷ rs) ps = ⊥
+PartsOf perPeriod core (w ∷ ws) [] ps = ⊥
+PartsOf perPeriod core (w ∷ ws) (r ∷ rs) [] = ⊥
+PartsOf perPeriod core (w ∷ ws) (r ∷ rs) (p ∷ ps) =
+    (p .share ≡ w) × EnvelopeOf perPeriod core r (p .curve) × PartsOf perPeriod core ws rs ps
+
+-- the parts of a plan for a core, of W periods
+abbrev pub Parts : Plan → ℕ → ℕ → List Part → Type 0
+Parts p core w = PartsOf (p .perPeriod) core (shares w (p .lengths)) (rows p)
+
+-- each interval gets a whole number of requests of at most w(j)·q(j)
+abbrev pub Fitting : List Part → List ℕ → Type 0
+Fitting [] [] = Unit {0}
+Fitting [] (x ∷ xs) = ⊥
+Fitting (p ∷ ps) [] = ⊥
+Fitting (p ∷ ps) (x ∷ xs) = (x ≤ p .share * limit (p .curve)) × Fitting ps xs
+
+-- a placement: each interval gets at most w(j)·q(j), the sum is at most the workload's requests
+pub record Placement (ps : List Part) (requests : ℕ) (xs : List ℕ) : Type 0 where
+  pub fitting : Fitting ps xs
+  pub within : sumOf xs ≤ requests
+
+-- the total stall of a placement
+unfoldable pub total : List Part → List ℕ → Fraction
+total [] xs = whole 0
+total (p ∷ ps) [] = whole 0
+total (p ∷ ps) (x ∷ xs) = intervalStall (p .curve) (p .share) x +ᶠ total ps xs
+
+-- a placement of greatest total stall: the largest total over all placements
+pub record Greatest (ps : List Part) (requests : ℕ) (xs : List ℕ) : Type 0 where
+  pub placed : Placement ps requests xs
+  pub most : (ys : List ℕ) → Placement ps requests ys → total ps ys ≤ᶠ total ps xs
+
+-- gives no more to interval 1, or as much and no more to interval 2, and so on
+abbrev pub NotAhead : List ℕ → List ℕ → Type 0
+NotAhead [] xs = Unit {0}
+NotAhead (y ∷ ys) [] = ⊥
+NotAhead (y ∷ ys) (x ∷ xs) = (y < x) ⊎ ((y ≡ x) × NotAhead ys xs)
+
+-- the answered placement: among those of greatest stall that place as many requests as possible, the one that gives most to interval 1, then most to interval 2, and so on
+pub record Answered (ps : List Part) (requests : ℕ) (xs : List ℕ) : Type 0 where
+  pub greatest : Greatest ps requests xs
+  pub mostPlaced : (ys : List ℕ) → Greatest ps requests ys → sumOf ys ≤ sumOf xs
+  pub mostEarly : (ys : List ℕ) → Greatest ps requests ys → sumOf ys ≡ sumOf xs → NotAhead ys xs
+
+-- S(W), the greatest total stall at W: f is the total of a placement of greatest stall
+pub record GreatestStall (p : Plan) (core requests w : ℕ) (f : Fraction) : Type 0 where
+  pub parts : List Part
+  pub ofPlan : Parts p core w parts
+  pub placement : List ℕ
+  pub greatest : Greatest parts requests placement
+  pub value : f ≡ total parts placement
+
+-- the answered placement at W, and its stall rounded up to a whole slot
+pub record AnsweredAt (p : Plan) (core requests w : ℕ) (xs : List ℕ) (stall : ℕ) : Type 0 where
+  pub parts : List Part
+  pub ofPlan : Parts p core w parts
+  pub answered : Answered parts requests xs
+  pub rounded : stall ≡ roundUp (total parts xs)

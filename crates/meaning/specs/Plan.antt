@@ -1,0 +1,44 @@
+-- Units and bounds: a plan of budgets, and a workload on one of its cores.
+use mathlib.Core.List.{List, [], _∷_}
+use Prim.Native.Nat.{ℕ, _+_, _-_}
+use lib.ListN.{length, getD, take, drop}
+
+-- cores m, slots per period Q, the periods of each interval, and the budgets, interval by interval, core 1 first
+pub record Plan : Type 0 where
+  pub cores : ℕ
+  pub perPeriod : ℕ
+  pub lengths : List ℕ
+  pub budgets : List ℕ
+
+-- the core under analysis, computing E in slots, requests, and the horizon H in periods
+pub record Workload : Type 0 where
+  pub core : ℕ
+  pub computing : ℕ
+  pub requests : ℕ
+  pub horizon : ℕ
+
+-- the sum of a list
+abbrev pub sumOf : List ℕ → ℕ
+sumOf [] = 0
+sumOf (n ∷ ns) = n + sumOf ns
+
+-- intervals N
+abbrev pub intervals : Plan → ℕ
+intervals p = length (p .lengths)
+
+-- all periods together, T
+abbrev pub periods : Plan → ℕ
+periods p = sumOf (p .lengths)
+
+-- m budgets for each of the intervals, in order
+unfoldable pub rowsOf : ℕ → List ℕ → List ℕ → List (List ℕ)
+rowsOf m [] budgets = []
+rowsOf m (l ∷ ls) budgets = take m budgets ∷ rowsOf m ls (drop m budgets)
+
+-- the budgets of each interval: the one place where a plan's budgets are looked up
+abbrev pub rows : Plan → List (List ℕ)
+rows p = rowsOf (p .cores) (p .lengths) (p .budgets)
+
+-- the budget of a core, counted from 1, among the budgets of an interval
+abbrev pub budgetOf : ℕ → List ℕ → ℕ
+budgetOf core row = getD row (core - 1) 0

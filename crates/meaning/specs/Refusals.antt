@@ -1,0 +1,97 @@
+-- Refusals: which number a question is refused with, in document 01's order; 0 where it is not.
+use mathlib.Core.Bool.{Bool, cond, not, _&&_, _||_}
+use mathlib.Core.List.{List, [], _∷_}
+use Prim.Native.Nat.{ℕ, zero, suc, _+_, _*_}
+use lib.ListN.{length, take, drop}
+use lib.Dec.{leb, ltb, eqb}
+use Rattle.meaning.specs.Plan.{Plan, Workload, sumOf, intervals, periods, rows, budgetOf}
+
+infixr 20 _before_
+-- the number n where a rule is broken
+abbrev pub refusedIf : Bool → ℕ → ℕ
+refusedIf broken n = cond broken n 0
+
+-- the first of two refusals that is given
+abbrev pub _before_ : ℕ → ℕ → ℕ
+_before_ zero later = later
+_before_ (suc n) later = suc n
+
+-- n is not a..b
+abbrev pub outside : ℕ → ℕ → ℕ → Bool
+outside a b n = not (leb a n && leb n b)
+
+-- per interval in order, 4 before 5: an interval of 0 periods, or the running total passes 65,535; an interval's budgets don't sum to Q
+unfoldable pub intervalsRefusal : ℕ → ℕ → ℕ → List ℕ → List ℕ → ℕ
+intervalsRefusal m perPeriod soFar [] budgets = 0
+intervalsRefusal m perPeriod soFar (l ∷ ls) budgets =
+    refusedIf (eqb l 0 || ltb 65_535 (soFar + l)) 4
+    before refusedIf (not (eqb (sumOf (take m budgets)) perPeriod)) 5
+    before intervalsRefusal m perPeriod (soFar + l) ls (drop m budgets)
+
+-- 1 to 5: cores not 1..8; Q not 1..65,535; intervals not 1..64, or budgets given aren't N·m numbers; then per interval
+unfoldable pub planRefusal : Plan → ℕ
+planRefusal p =
+    refusedIf (outside 1 8 (p .cores)) 1
+    before refusedIf (outside 1 65_535 (p .perPeriod)) 2
+    before refusedIf (outside 1 64 (intervals p) || not (eqb (length (p .budgets)) (intervals p * p .cores))) 3
+    before intervalsRefusal (p .cores) (p .perPeriod) 0 (p .lengths) (p .budgets)
+
+-- that core's budget is 0 in some interval
+unfoldable pub withoutBudget : ℕ → List (List ℕ) → Bool
+withoutBudget core [] = Bool.false
+withoutBudget core (r ∷ rs) = eqb (budgetOf core r) 0 || withoutBudget core rs
+
+-- 6, 7: core not 1..m; that core's budget is 0 in some interval
+unfoldable pub coreRefusal : Plan → ℕ → ℕ
+coreRefusal p core = refusedIf (outside 1 (p .cores) core) 6 before refusedIf (withoutBudget core (rows p)) 7
+
+-- 8: computing outside its bounds
+abbrev pub computingRefusal : ℕ → ℕ
+computingRefusal computing = refusedIf (outside 1 4_294_836_225 computing) 8
+
+-- 9: requests outside their bounds
+abbrev pub requestsRefusal : ℕ → ℕ
+requestsRefusal requests = refusedIf (outside 0 4_294_836_225 requests) 9
+
+-- 10: horizon (or given W) not 1..T
+abbrev pub horizonRefusal : Plan → ℕ → ℕ
+horizonRefusal p n = refusedIf (outside 1 (periods p) n) 10
+
+-- 11: the lent result has no room for so many numbers
+abbrev pub roomRefusal : ℕ → ℕ → ℕ
+roomRefusal wanted room = refusedIf (ltb room wanted) 11
+
+-- the one-interval questions are asked with one interval of one period
+abbrev pub oneInterval : ℕ → ℕ → List ℕ → Plan
+oneInterval m perPeriod budgets = record { cores = m; perPeriod = perPeriod; lengths = 1 ∷ []; budgets = budgets }
+
+-- raw stall at r: 1, 2, 3, 5, 6, 7, 13 (r above the budget)
+unfoldable pub rawRefusal : ℕ → ℕ → List ℕ → ℕ → ℕ → ℕ
+rawRefusal m perPeriod budgets core r =
+    planRefusal (oneInterval m perPeriod budgets)
+    before coreRefusal (oneInterval m perPeriod budgets) core
+    before refusedIf (ltb (budgetOf core budgets) r) 13
+
+-- corners for one interval: 1, 2, 3, 5, 6, 7; 11 is judged with the corners
+unfoldable pub cornersRefusal : ℕ → ℕ → List ℕ → ℕ → ℕ
+cornersRefusal m perPeriod budgets core =
+    planRefusal (oneInterval m perPeriod budgets) before coreRefusal (oneInterval m perPeriod budgets) core
+
+-- placement and stall at a given W: 1 to 7, 9, 10, 11
+unfoldable pub placementRefusal : Plan → ℕ → ℕ → ℕ → ℕ → ℕ
+placementRefusal p core requests n room =
+    planRefusal p
+    before coreRefusal p core
+    before requestsRefusal requests
+    before horizonRefusal p n
+    before roomRefusal (intervals p) room
+
+-- span: 1 to 11; 12 is judged with the span
+unfoldable pub spanRefusal : Plan → Workload → ℕ → ℕ
+spanRefusal p w room =
+    planRefusal p
+    before coreRefusal p (w .core)
+    before computingRefusal (w .computing)
+    before requestsRefusal (w .requests)
+    before horizonRefusal p (w .horizon)
+    before roomRefusal (intervals p) room

@@ -1,0 +1,157 @@
+// The three units of the analysis, and the refusals. A count of slots never stands where a count of periods is wanted.
+ghost use mathlib.Core.Path.{_≡_};
+ghost use Prim.Native.Nat.{_+_, _*_};
+ghost use Rattle.units.specs.Units.{slotsOf, periodsOf, requestsOf, periodsHolding};
+ghost use Rattle.units.specs.Refusals.{numberOf};
+
+// Slots: each is one worst-case memory transaction long.
+pub struct Slots(pub u32);
+
+// Regulation periods.
+pub struct Periods(pub u16);
+
+// Requests: each is one memory transaction.
+pub struct Requests(pub u32);
+
+// What a checked maker of slots gives.
+pub enum MadeSlots {
+    Within(Slots),
+    Outside,
+}
+
+// What a checked maker of periods gives.
+pub enum MadePeriods {
+    Within(Periods),
+    Outside,
+}
+
+// What a checked maker of requests gives.
+pub enum MadeRequests {
+    Within(Requests),
+    Outside,
+}
+
+impl Slots {
+    // The most slots that the longest plan has: 65,535 periods of 65,535 slots.
+    pub const MAX: u32 = 4_294_836_225;
+
+    // The most slots that one period has.
+    pub const MAX_PER_PERIOD: u32 = 65_535;
+
+    pub fn checked(count: u64) -> MadeSlots
+        ensures { λ r. ⌜ r ≡ slotsOf count ⌝ }
+    {
+        if count <= Slots::MAX as u64 {
+            MadeSlots::Within(Slots(count as u32))
+        } else {
+            MadeSlots::Outside
+        }
+    }
+
+    // The least number of periods that holds these slots, where a plan can have so many.
+    pub fn periods(self, each: Slots) -> MadePeriods
+        ensures { λ r. ⌜ r ≡ periodsHolding (self .0) (each .0) ⌝ }
+    {
+        if each.0 == 0 {
+            return MadePeriods::Outside;
+        }
+        let rounded = (self.0 as u64 + (each.0 as u64 - 1)) / each.0 as u64;
+        Periods::checked(rounded)
+    }
+}
+
+impl Periods {
+    // The most periods that a plan has.
+    pub const MAX: u16 = 65_535;
+
+    pub fn checked(count: u64) -> MadePeriods
+        ensures { λ r. ⌜ r ≡ periodsOf count ⌝ }
+    {
+        if count <= Periods::MAX as u64 {
+            MadePeriods::Within(Periods(count as u16))
+        } else {
+            MadePeriods::Outside
+        }
+    }
+
+    // The slots of these periods.
+    pub fn slots(self, each: Slots) -> MadeSlots
+        ensures { λ r. ⌜ r ≡ slotsOf (self .0 * each .0) ⌝ }
+    {
+        Slots::checked(self.0 as u64 * each.0 as u64)
+    }
+}
+
+impl Requests {
+    // The most requests that a workload has.
+    pub const MAX: u32 = 4_294_836_225;
+
+    pub fn checked(count: u64) -> MadeRequests
+        ensures { λ r. ⌜ r ≡ requestsOf count ⌝ }
+    {
+        if count <= Requests::MAX as u64 {
+            MadeRequests::Within(Requests(count as u32))
+        } else {
+            MadeRequests::Outside
+        }
+    }
+
+    // A request is one slot.
+    pub fn slots(self) -> Slots
+        ensures { λ r. ⌜ r .0 ≡ self .0 ⌝ }
+    {
+        Slots(self.0)
+    }
+}
+
+// What a question is refused for, one case for each number of the table in document 01.
+pub enum Refusal {
+    CoresOutside,
+    SlotsPerPeriodOutside,
+    IntervalsOutside,
+    PeriodsOutside,
+    BudgetsNotWhole,
+    CoreOutside,
+    NoBudget,
+    ComputingOutside,
+    RequestsOutside,
+    HorizonOutside,
+    NoRoom,
+    NoSpan,
+    RateAboveBudget,
+    FileEnds,
+    KindNotAllowed,
+    LengthWrong,
+    BitsNotZero,
+    ListedBudgetZero,
+    TooManyWorkloads,
+}
+
+impl Refusal {
+    // The number in document 01's table.
+    pub fn number(self) -> u8
+        ensures { λ r. ⌜ r ≡ numberOf self ⌝ }
+    {
+        match self {
+            Refusal::CoresOutside => 1,
+            Refusal::SlotsPerPeriodOutside => 2,
+            Refusal::IntervalsOutside => 3,
+            Refusal::PeriodsOutside => 4,
+            Refusal::BudgetsNotWhole => 5,
+            Refusal::CoreOutside => 6,
+            Refusal::NoBudget => 7,
+            Refusal::ComputingOutside => 8,
+            Refusal::RequestsOutside => 9,
+            Refusal::HorizonOutside => 10,
+            Refusal::NoRoom => 11,
+            Refusal::NoSpan => 12,
+            Refusal::RateAboveBudget => 13,
+            Refusal::FileEnds => 20,
+            Refusal::KindNotAllowed => 21,
+            Refusal::LengthWrong => 22,
+            Refusal::BitsNotZero => 23,
+            Refusal::ListedBudgetZero => 24,
+            Refusal::TooManyWorkloads => 25,
+        }
+    }
+}
