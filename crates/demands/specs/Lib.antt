@@ -1,1 +1,4 @@
 pub mod Worked
+pub mod Table
+pub mod Demands
+pub mod RunsByNumber

@@ -1,37 +1,16 @@
 -- Numbers worked by hand in document 01 that the definitions compute by themselves.
 use mathlib.Core.Path.{_≡_, refl}
-use mathlib.Core.List.{List, [], _∷_, _++_, map}
+use mathlib.Core.List.{List, [], _∷_}
 use Prim.Native.Nat.{ℕ}
 use Rattle.meaning.specs.Plan.{Plan, rowsOf}
-use Rattle.meaning.specs.Curve.{raw, others, sumOfSmaller}
 use Rattle.meaning.specs.Refusals.{planRefusal, intervalsRefusal, coreRefusal, withoutBudget, cornersRefusal}
 use Rattle.meaning.specs.PlanFile.{Reading, PlanFile, readFile, headFault, intervalFault, workloadFault, recordFault, readIntervals, readWorkloads, tabulate, listedZero, fileOf, intervalRecords, workloadRecords, maskOf, listedOf}
-use Rattle.meaning.specs.Promises.{SpanFigures}
 use Rattle.meaning.specs.Listing.{digits, spaced, planLine, spanLine, refusedLine, endLine}
 use lib.Count.{ones, onesIn}
 
--- the budgets of the worked numbers
-abbrev budgets : List ℕ
-budgets = 2 ∷ 2 ∷ 5 ∷ 7 ∷ []
-
--- P1 core 1: raw 0, 3, 14
-pub raw-core-1 : map (raw 16 budgets 1) (0 ∷ 1 ∷ 2 ∷ []) ≡ 0 ∷ 3 ∷ 14 ∷ []
-unfolding raw others sumOfSmaller
-raw-core-1 = refl
-
--- P2 core 3: raw 0, 3, 6, 7, 8, 11
-pub raw-core-3 : map (raw 16 budgets 3) (0 ∷ 1 ∷ 2 ∷ 3 ∷ 4 ∷ 5 ∷ []) ≡ 0 ∷ 3 ∷ 6 ∷ 7 ∷ 8 ∷ 11 ∷ []
-unfolding raw others sumOfSmaller
-raw-core-3 = refl
-
--- P3 core 4: raw 0, 3, 6, 7, 8, 9, 9, 9
-pub raw-core-4 : map (raw 16 budgets 4) (0 ∷ 1 ∷ 2 ∷ 3 ∷ 4 ∷ 5 ∷ 6 ∷ 7 ∷ []) ≡ 0 ∷ 3 ∷ 6 ∷ 7 ∷ 8 ∷ 9 ∷ 9 ∷ 9 ∷ []
-unfolding raw others sumOfSmaller
-raw-core-4 = refl
-
 -- budgets 2, 2, 5, 6 with Q 16: 5
 pub not-whole : cornersRefusal 4 16 (2 ∷ 2 ∷ 5 ∷ 6 ∷ []) 3 ≡ 5
-unfolding cornersRefusal planRefusal intervalsRefusal
+unfolding cornersRefusal planRefusal intervalsRefusal rowsOf
 not-whole = refl
 
 -- budgets 0, 4, 6, 6: core 1 gets 7, core 2 doesn't
@@ -39,6 +18,7 @@ pub no-budget : cornersRefusal 4 16 (0 ∷ 4 ∷ 6 ∷ 6 ∷ []) 1 ≡ 7
 unfolding cornersRefusal planRefusal intervalsRefusal coreRefusal withoutBudget rowsOf
 no-budget = refl
 
+-- and core 2 is not refused
 pub some-budget : cornersRefusal 4 16 (0 ∷ 4 ∷ 6 ∷ 6 ∷ []) 2 ≡ 0
 unfolding cornersRefusal planRefusal intervalsRefusal coreRefusal withoutBudget rowsOf
 some-budget = refl
@@ -95,3 +75,22 @@ empty-file = refl
 pub example-plan-line : planLine examplePlan ≡ 112 ∷ 108 ∷ 97 ∷ 110 ∷ 32 ∷ 52 ∷ 32 ∷ 49 ∷ 54 ∷ 32 ∷ 50 ∷ 32 ∷ 53 ∷ 10 ∷ []
 unfolding planLine spaced digits
 example-plan-line = refl
+
+-- "1 span 4 stall 30 rounds 3 requests 2 8"
+pub example-span-line :
+    spanLine 1 (record { refused = 0; span = 4; stall = 30; rounds = 3 }) (2 ∷ 8 ∷ [])
+    ≡ 49 ∷ 32 ∷ 115 ∷ 112 ∷ 97 ∷ 110 ∷ 32 ∷ 52 ∷ 32 ∷ 115 ∷ 116 ∷ 97 ∷ 108 ∷ 108 ∷ 32 ∷ 51 ∷ 48
+    ∷ 32 ∷ 114 ∷ 111 ∷ 117 ∷ 110 ∷ 100 ∷ 115 ∷ 32 ∷ 51
+    ∷ 32 ∷ 114 ∷ 101 ∷ 113 ∷ 117 ∷ 101 ∷ 115 ∷ 116 ∷ 115 ∷ 32 ∷ 50 ∷ 32 ∷ 56 ∷ 10 ∷ []
+unfolding spanLine spaced digits
+example-span-line = refl
+
+-- "2 refused 12"
+pub example-refused-line : refusedLine 2 12 ≡ 50 ∷ 32 ∷ 114 ∷ 101 ∷ 102 ∷ 117 ∷ 115 ∷ 101 ∷ 100 ∷ 32 ∷ 49 ∷ 50 ∷ 10 ∷ []
+unfolding refusedLine spaced digits
+example-refused-line = refl
+
+-- "end 2"
+pub example-end-line : endLine 2 ≡ 101 ∷ 110 ∷ 100 ∷ 32 ∷ 50 ∷ 10 ∷ []
+unfolding endLine spaced digits
+example-end-line = refl

@@ -1,9 +1,9 @@
 -- Stall: the raw stall of one interval, its envelope given by corners, and the interval's stall.
 use mathlib.Core.Path.{_≡_}
 use mathlib.Core.Bool.{cond}
-use mathlib.Core.List.{List, [], _∷_, map}
+use mathlib.Core.List.{List, [], _∷_, _++_, map}
 use Prim.Native.Nat.{ℕ, zero, suc, _+_, _-_, _*_, _≤_, _<_, min}
-use lib.ListN.{length}
+use lib.ListN.{length, replicate}
 use lib.Dec.{ltb, leb}
 use Rattle.meaning.specs.Fraction.{Fraction, whole, _≤ᶠ_, _<ᶠ_}
 use Rattle.meaning.specs.Plan.{budgetOf}
@@ -19,7 +19,7 @@ unfoldable pub sumOfSmaller : ℕ → List ℕ → ℕ
 sumOfSmaller r [] = 0
 sumOfSmaller r (b ∷ bs) = min r b + sumOfSmaller r bs
 
--- raw stall at r requests (004, equation 2): the sum over the other cores of the smaller of r and that core's budget; at r = q it is Q - q
+-- raw stall at r requests (004, equation 2): r below q: the sum over the other cores of the smaller of r and that core's budget; r = q: Q - q
 unfoldable pub raw : ℕ → List ℕ → ℕ → ℕ → ℕ
 raw perPeriod row core r =
     cond (ltb r (budgetOf core row)) (sumOfSmaller r (others (core - 1) row)) (perPeriod - budgetOf core row)
@@ -50,6 +50,14 @@ count c = suc (length (c .rest))
 -- the corners' rates in order
 abbrev pub rates : Curve → List ℕ
 rates c = c .first .rate ∷ map (λ (b : Corner). b .rate) (c .rest)
+
+-- the corners' stalls in order
+abbrev pub stalls : Curve → List ℕ
+stalls c = c .first .stall ∷ map (λ (b : Corner). b .stall) (c .rest)
+
+-- a fixed block of nine; places past the count are 0
+abbrev pub blockOf : List ℕ → List ℕ
+blockOf ns = ns ++ replicate (9 - length ns) 0
 
 -- the slope of the segment from a to b
 abbrev pub slope : Corner → Corner → Fraction

@@ -54,7 +54,7 @@ pub record Greatest (ps : List Part) (requests : ℕ) (xs : List ℕ) : Type 0 w
   pub placed : Placement ps requests xs
   pub most : (ys : List ℕ) → Placement ps requests ys → total ps ys ≤ᶠ total ps xs
 
--- gives no more to interval 1, or as much and no more to interval 2, and so on
+-- gives less to interval 1, or as much and less to interval 2, and so on, or the same throughout
 abbrev pub NotAhead : List ℕ → List ℕ → Type 0
 NotAhead [] xs = Unit {0}
 NotAhead (y ∷ ys) [] = ⊥

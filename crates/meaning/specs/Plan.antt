@@ -3,6 +3,30 @@ use mathlib.Core.List.{List, [], _∷_}
 use Prim.Native.Nat.{ℕ, _+_, _-_}
 use lib.ListN.{length, getD, take, drop}
 
+-- cores m: 1 to 8
+abbrev pub mostCores : ℕ
+mostCores = 8
+
+-- slots per period Q: 1 to 65,535
+abbrev pub mostPerPeriod : ℕ
+mostPerPeriod = 65_535
+
+-- intervals N: 1 to 64
+abbrev pub mostIntervals : ℕ
+mostIntervals = 64
+
+-- all periods together: T of at most 65,535
+abbrev pub mostPeriods : ℕ
+mostPeriods = 65_535
+
+-- computing of 1 to 4,294,836,225 slots, requests of 0 to as many
+abbrev pub mostWork : ℕ
+mostWork = 4_294_836_225
+
+-- workloads of a file: 0 to 256 of them
+abbrev pub mostWorkloads : ℕ
+mostWorkloads = 256
+
 -- cores m, slots per period Q, the periods of each interval, and the budgets, interval by interval, core 1 first
 pub record Plan : Type 0 where
   pub cores : ℕ

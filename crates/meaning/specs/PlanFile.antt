@@ -5,8 +5,8 @@ use Prim.Native.Nat.{ℕ, zero, suc, _+_, _*_, _/_, _%_, _^_}
 use lib.ListN.{length, getD, drop}
 use lib.Dec.{leb, ltb, eqb}
 use lib.Count.{ones}
-use Rattle.meaning.specs.Plan.{Plan, sumOf, rows}
-use Rattle.meaning.specs.Refusals.{refusedIf, _before_, outside, planRefusal, roomRefusal}
+use Rattle.meaning.specs.Plan.{Plan, sumOf, rows, mostWorkloads}
+use Rattle.meaning.specs.Refusals.{refusedIf, _before_, outside, coresRefusal, perPeriodRefusal, intervalsOutside, intervalRefusal, planRefusal, roomRefusal}
 
 -- the workloads of a file, as four lists of values
 pub record Workloads : Type 0 where
@@ -37,7 +37,7 @@ twoAt s i = byteAt s i + 256 * byteAt s (i + 1)
 abbrev pub fourAt : List ℕ → ℕ → ℕ
 fourAt s i = twoAt s i + 65_536 * twoAt s (i + 2)
 
--- f of 0, 1, .. up to n numbers
+-- the list of f 0, f 1, and so on, n numbers long
 unfoldable pub tabulate : ℕ → (ℕ → ℕ) → List ℕ
 tabulate zero f = []
 tabulate (suc n) f = f 0 ∷ tabulate n (λ k. f (suc k))
@@ -56,9 +56,9 @@ unfoldable pub headFault : List ℕ → ℕ
 headFault s =
     recordFault s 0 1 false (not (eqb (twoAt s 0) 6))
     before refusedIf (not (eqb (byteAt s 5) 0)) 23
-    before refusedIf (outside 1 8 (byteAt s 4)) 1
-    before refusedIf (outside 1 65_535 (twoAt s 6)) 2
-    before refusedIf (outside 1 64 (twoAt s 8)) 3
+    before coresRefusal (byteAt s 4)
+    before perPeriodRefusal (twoAt s 6)
+    before refusedIf (intervalsOutside (twoAt s 8)) 3
 
 -- the i-th listed budget of the interval record at an offset, i from 0
 abbrev pub listedAt : List ℕ → ℕ → ℕ → ℕ
@@ -85,8 +85,7 @@ intervalFault s at p =
     before refusedIf (not (eqb (byteAt s (at + 5)) 0) || leb (2 ^ p .cores) (byteAt s (at + 4))) 23
     before refusedIf (not (eqb (twoAt s at) (4 + 2 * ones (byteAt s (at + 4))))) 22
     before refusedIf (listedZero s at (ones (byteAt s (at + 4)))) 24
-    before refusedIf (eqb (twoAt s (at + 6)) 0 || ltb 65_535 (sumOf (p .lengths) + twoAt s (at + 6))) 4
-    before refusedIf (not (eqb (sumOf (rowAt (p .cores) s at)) (p .perPeriod))) 5
+    before intervalRefusal (p .perPeriod) (sumOf (p .lengths)) (twoAt s (at + 6)) (rowAt (p .cores) s at)
 
 -- kind 3, body 12: core, a zero byte, computing (4), requests (4), horizon (2); workload values aren't judged
 unfoldable pub workloadFault : List ℕ → ℕ → Bool → ℕ
@@ -133,7 +132,7 @@ noWorkloads = record { cores = []; computing = []; requests = []; horizons = [] 
 
 -- k intervals from an offset on, then the workloads, 0 to 256 of them
 unfoldable pub readIntervals : ℕ → List ℕ → ℕ → Plan → Reading
-readIntervals zero s at p = readWorkloads 256 s at (record { plan = p; workloads = noWorkloads })
+readIntervals zero s at p = readWorkloads mostWorkloads s at (record { plan = p; workloads = noWorkloads })
 readIntervals (suc k) s at p =
     let later = readIntervals k s (at + 4 + twoAt s at) (withInterval s at p) in
     byFault (intervalFault s at p) at later
@@ -175,7 +174,7 @@ intervalRecords (l ∷ ls) [] = []
 intervalRecords (l ∷ ls) (r ∷ rs) =
     recordOf 2 (maskOf r ∷ 0 ∷ twoBytes l ++ listedOf r) ++ intervalRecords ls rs
 
--- the workload records of these cores, computing, requests and horizons
+-- the workload records of these cores (one byte wide), computing, requests and horizons
 unfoldable pub workloadRecords : List ℕ → List ℕ → List ℕ → List ℕ → List ℕ
 workloadRecords [] es rs hs = []
 workloadRecords (c ∷ cs) es rs hs =
@@ -196,7 +195,7 @@ fileOf f =
 -- more than 256 workloads, or lists of workload values that differ in length
 abbrev pub listsWrong : Workloads → Bool
 listsWrong w =
-    ltb 256 (length (w .cores))
+    ltb mostWorkloads (length (w .cores))
     || not (eqb (length (w .computing)) (length (w .cores)))
     || not (eqb (length (w .requests)) (length (w .cores)))
     || not (eqb (length (w .horizons)) (length (w .cores)))

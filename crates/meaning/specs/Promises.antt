@@ -2,7 +2,7 @@
 use mathlib.Core.Path.{_≡_}
 use mathlib.Core.Logic.{_⊎_}
 use mathlib.Core.Bool.{Bool, true, false, cond, _&&_}
-use mathlib.Core.List.{List, [], _∷_, _++_}
+use mathlib.Core.List.{List, [], _++_}
 use Prim.Native.Nat.{ℕ, zero, suc}
 use lib.ListN.{length, drop}
 use lib.Dec.{leb}
@@ -11,7 +11,7 @@ use Rattle.meaning.specs.Curve.{Curve, raw, rates, count, EnvelopeOf}
 use Rattle.meaning.specs.Placement.{AnsweredAt}
 use Rattle.meaning.specs.Span.{IsSpan, NoSpan, Rounds}
 use Rattle.meaning.specs.Refusals.{rawRefusal, cornersRefusal, placementRefusal, spanRefusal}
-use Rattle.meaning.specs.PlanFile.{PlanFile, Workloads, Reading, readFile, fileOf, writeRefusal}
+use Rattle.meaning.specs.PlanFile.{PlanFile, Reading, readFile, fileOf, writeRefusal}
 
 -- by the number that a question is judged with: refused with that number, or, where it is 0, answered
 abbrev pub Judged : ℕ → (ℕ → Type 0) → Type 0 → Type 0

@@ -2,9 +2,10 @@
 use mathlib.Core.Bool.{Bool, cond, not, _&&_, _||_}
 use mathlib.Core.List.{List, [], _∷_}
 use Prim.Native.Nat.{ℕ, zero, suc, _+_, _*_}
-use lib.ListN.{length, take, drop}
+use lib.ListN.{length}
 use lib.Dec.{leb, ltb, eqb}
 use Rattle.meaning.specs.Plan.{Plan, Workload, sumOf, intervals, periods, rows, budgetOf}
+use Rattle.meaning.specs.Plan.{mostCores, mostPerPeriod, mostIntervals, mostPeriods, mostWork}
 
 infixr 20 _before_
 -- the number n where a rule is broken
@@ -20,21 +21,37 @@ _before_ (suc n) later = suc n
 abbrev pub outside : ℕ → ℕ → ℕ → Bool
 outside a b n = not (leb a n && leb n b)
 
--- per interval in order, 4 before 5: an interval of 0 periods, or the running total passes 65,535; an interval's budgets don't sum to Q
-unfoldable pub intervalsRefusal : ℕ → ℕ → ℕ → List ℕ → List ℕ → ℕ
-intervalsRefusal m perPeriod soFar [] budgets = 0
-intervalsRefusal m perPeriod soFar (l ∷ ls) budgets =
-    refusedIf (eqb l 0 || ltb 65_535 (soFar + l)) 4
-    before refusedIf (not (eqb (sumOf (take m budgets)) perPeriod)) 5
-    before intervalsRefusal m perPeriod (soFar + l) ls (drop m budgets)
+-- 1: cores not 1..8
+abbrev pub coresRefusal : ℕ → ℕ
+coresRefusal m = refusedIf (outside 1 mostCores m) 1
 
--- 1 to 5: cores not 1..8; Q not 1..65,535; intervals not 1..64, or budgets given aren't N·m numbers; then per interval
+-- 2: Q not 1..65,535
+abbrev pub perPeriodRefusal : ℕ → ℕ
+perPeriodRefusal perPeriod = refusedIf (outside 1 mostPerPeriod perPeriod) 2
+
+-- intervals not 1..64
+abbrev pub intervalsOutside : ℕ → Bool
+intervalsOutside n = outside 1 mostIntervals n
+
+-- 4 before 5: an interval of 0 periods, or the running total passes 65,535; an interval's budgets don't sum to Q
+abbrev pub intervalRefusal : ℕ → ℕ → ℕ → List ℕ → ℕ
+intervalRefusal perPeriod soFar l row =
+    refusedIf (eqb l 0 || ltb mostPeriods (soFar + l)) 4 before refusedIf (not (eqb (sumOf row) perPeriod)) 5
+
+-- per interval in order
+unfoldable pub intervalsRefusal : ℕ → ℕ → List ℕ → List (List ℕ) → ℕ
+intervalsRefusal perPeriod soFar [] rs = 0
+intervalsRefusal perPeriod soFar (l ∷ ls) [] = 0
+intervalsRefusal perPeriod soFar (l ∷ ls) (r ∷ rs) =
+    intervalRefusal perPeriod soFar l r before intervalsRefusal perPeriod (soFar + l) ls rs
+
+-- 1 to 5: 3 is intervals not 1..64, or budgets given aren't N·m numbers
 unfoldable pub planRefusal : Plan → ℕ
 planRefusal p =
-    refusedIf (outside 1 8 (p .cores)) 1
-    before refusedIf (outside 1 65_535 (p .perPeriod)) 2
-    before refusedIf (outside 1 64 (intervals p) || not (eqb (length (p .budgets)) (intervals p * p .cores))) 3
-    before intervalsRefusal (p .cores) (p .perPeriod) 0 (p .lengths) (p .budgets)
+    coresRefusal (p .cores)
+    before perPeriodRefusal (p .perPeriod)
+    before refusedIf (intervalsOutside (intervals p) || not (eqb (length (p .budgets)) (intervals p * p .cores))) 3
+    before intervalsRefusal (p .perPeriod) 0 (p .lengths) (rows p)
 
 -- that core's budget is 0 in some interval
 unfoldable pub withoutBudget : ℕ → List (List ℕ) → Bool
@@ -47,11 +64,11 @@ coreRefusal p core = refusedIf (outside 1 (p .cores) core) 6 before refusedIf (w
 
 -- 8: computing outside its bounds
 abbrev pub computingRefusal : ℕ → ℕ
-computingRefusal computing = refusedIf (outside 1 4_294_836_225 computing) 8
+computingRefusal computing = refusedIf (outside 1 mostWork computing) 8
 
 -- 9: requests outside their bounds
 abbrev pub requestsRefusal : ℕ → ℕ
-requestsRefusal requests = refusedIf (outside 0 4_294_836_225 requests) 9
+requestsRefusal requests = refusedIf (outside 0 mostWork requests) 9
 
 -- 10: horizon (or given W) not 1..T
 abbrev pub horizonRefusal : Plan → ℕ → ℕ

@@ -1,6 +1,6 @@
 -- What the checked makers and the named conversions of the three units give.
 use Prim.Native.Nat.{ℕ, _+_, _-_, _/_}
-use mathlib.Core.Bool.{Bool, true, false}
+use mathlib.Core.Bool.{Bool, true, false, not, _&&_}
 use lib.Dec.{leb, eqb}
 use Rattle.units.specs.declared.Slots.{Slots}
 use Rattle.units.specs.declared.Periods.{Periods}
@@ -9,14 +9,17 @@ use Rattle.units.specs.declared.MadeSlots.{MadeSlots}
 use Rattle.units.specs.declared.MadePeriods.{MadePeriods}
 use Rattle.units.specs.declared.MadeRequests.{MadeRequests}
 
+-- n slots where the test is true
 abbrev pickSlots : Bool → ℕ → MadeSlots
 pickSlots true n = MadeSlots.Within (record { 0 = n })
 pickSlots false n = MadeSlots.Outside
 
+-- n periods where the test is true
 abbrev pickPeriods : Bool → ℕ → MadePeriods
 pickPeriods true n = MadePeriods.Within (record { 0 = n })
 pickPeriods false n = MadePeriods.Outside
 
+-- n requests where the test is true
 abbrev pickRequests : Bool → ℕ → MadeRequests
 pickRequests true n = MadeRequests.Within (record { 0 = n })
 pickRequests false n = MadeRequests.Outside
@@ -24,6 +27,10 @@ pickRequests false n = MadeRequests.Outside
 -- n slots, where the longest plan has so many
 abbrev pub slotsOf : ℕ → MadeSlots
 slotsOf n = pickSlots (leb n 4_294_836_225) n
+
+-- n slots in one period: 1 to 65,535
+abbrev pub perPeriodOf : ℕ → MadeSlots
+perPeriodOf n = pickSlots (not (eqb n 0) && leb n 65_535) n
 
 -- n periods, where a plan can have so many
 abbrev pub periodsOf : ℕ → MadePeriods
@@ -33,6 +40,7 @@ periodsOf n = pickPeriods (leb n 65_535) n
 abbrev pub requestsOf : ℕ → MadeRequests
 requestsOf n = pickRequests (leb n 4_294_836_225) n
 
+-- by whether a period has no slots
 abbrev pickHolding : Bool → ℕ → ℕ → MadePeriods
 pickHolding true s q = MadePeriods.Outside
 pickHolding false s q = periodsOf ((s + (q - 1)) / q)

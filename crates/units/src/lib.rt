@@ -1,7 +1,7 @@
 // The three units of the analysis, and the refusals. A count of slots never stands where a count of periods is wanted.
 ghost use mathlib.Core.Path.{_≡_};
 ghost use Prim.Native.Nat.{_+_, _*_};
-ghost use Rattle.units.specs.Units.{slotsOf, periodsOf, requestsOf, periodsHolding};
+ghost use Rattle.units.specs.Units.{slotsOf, perPeriodOf, periodsOf, requestsOf, periodsHolding};
 ghost use Rattle.units.specs.Refusals.{numberOf};
 
 // Slots: each is one worst-case memory transaction long.
@@ -38,10 +38,25 @@ impl Slots {
     // The most slots that one period has.
     pub const MAX_PER_PERIOD: u32 = 65_535;
 
+    // The slots, where the longest plan has so many.
     pub fn checked(count: u64) -> MadeSlots
         ensures { λ r. ⌜ r ≡ slotsOf count ⌝ }
     {
         if count <= Slots::MAX as u64 {
+            MadeSlots::Within(Slots(count as u32))
+        } else {
+            MadeSlots::Outside
+        }
+    }
+
+    // The slots of one period, where a period can have so many.
+    pub fn checked_per_period(count: u64) -> MadeSlots
+        ensures { λ r. ⌜ r ≡ perPeriodOf count ⌝ }
+    {
+        if count == 0 {
+            return MadeSlots::Outside;
+        }
+        if count <= Slots::MAX_PER_PERIOD as u64 {
             MadeSlots::Within(Slots(count as u32))
         } else {
             MadeSlots::Outside
@@ -64,6 +79,7 @@ impl Periods {
     // The most periods that a plan has.
     pub const MAX: u16 = 65_535;
 
+    // The periods, where a plan can have so many.
     pub fn checked(count: u64) -> MadePeriods
         ensures { λ r. ⌜ r ≡ periodsOf count ⌝ }
     {
@@ -86,6 +102,7 @@ impl Requests {
     // The most requests that a workload has.
     pub const MAX: u32 = 4_294_836_225;
 
+    // The requests, where a workload can have so many.
     pub fn checked(count: u64) -> MadeRequests
         ensures { λ r. ⌜ r ≡ requestsOf count ⌝ }
     {

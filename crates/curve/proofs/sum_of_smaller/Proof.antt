@@ -1,0 +1,68 @@
+use mathlib.Core.Path.{_≡_}
+use Prim.Native.Nat.{_+_, _-_, _≤_}
+use native.Mathlib.Omega.{arith}
+use lib.ListN.{length, drop}
+use borrow.Author.Needs.{needs}
+use Rattle.meaning.specs.Curve.{sumOfSmaller}
+use Rattle.laws.specs.Raw.{smaller-le-sum}
+use Rattle.curve.specs.Rows.{smaller-from, smaller-none}
+use Rattle.curve.proofs.sum_of_smaller.Statement.{statement}
+use Rattle.curve.proofs.sum_of_smaller.Tie as tie
+
+abbrev Inv-loop : tie.InvT-loop
+Inv-loop row rate sum₀ i₀ sum i = (i ≤ length row) × (sum + sumOfSmaller (rate .0) (drop i row) ≡ sumOfSmaller (rate .0) row)
+
+abbrev μ-loop : tie.MeasureT-loop
+μ-loop row rate sum₀ i₀ sum i = length row - i
+
+loop-holds : tie.Need-loop-holds Inv-loop μ-loop
+loop-holds c = omega arith
+
+mul-smaller : tie.Need-mul-smaller Inv-loop μ-loop
+mul-smaller c = search needs
+
+shared-slice-read-smaller : tie.Need-shared-slice-read-smaller Inv-loop μ-loop
+shared-slice-read-smaller c = search needs
+
+smaller-requires : tie.Need-smaller-requires Inv-loop μ-loop
+smaller-requires c κs = search needs
+
+add-sum : tie.Need-add-sum Inv-loop μ-loop
+add-sum c =
+    let turn = c .before .before .before .before in
+    let rate = turn .before .before .args .rate .0 in
+    let row = turn .before .before .args .row .now in
+    omega (arith, smaller-from rate (turn .loop .i) row (search needs), smaller-le-sum row rate)
+
+add-i : tie.Need-add-i Inv-loop μ-loop
+add-i c = search needs
+
+loop-less : tie.Need-loop-less Inv-loop μ-loop
+loop-less c = search needs
+
+loop-again : tie.Need-loop-again Inv-loop μ-loop
+loop-again c =
+    let turn = c .before .before .before .before in
+    let args = turn .before .before .args in
+    omega (arith, smaller-from (args .rate .0) (turn .loop .i) (args .row .now) (search needs))
+
+returns : tie.Need-returns Inv-loop μ-loop
+returns c =
+    let args = c .before .before .before .args in
+    omega (arith, smaller-none (args .rate .0) (c .before .loop .i) (args .row .now) (search needs))
+
+pub sum-of-smaller-spec : {M : Type 1} → statement M
+sum-of-smaller-spec =
+    tie.close
+    (tie.spec
+    Inv-loop
+    μ-loop
+    loop-holds
+    mul-smaller
+    shared-slice-read-smaller
+    smaller-requires
+    add-sum
+    add-i
+    loop-less
+    loop-again
+    returns)

@@ -1,0 +1,164 @@
+-- The table P1 to P10 of document 01, under one proved statement over the definitions.
+use mathlib.Core.Path.{_≡_, refl}
+use mathlib.Core.List.{List, [], _∷_, map}
+use Prim.Native.Nat.{ℕ}
+use lib.ListN.{length}
+use Rattle.meaning.specs.Fraction.{roundUp}
+use Rattle.meaning.specs.Plan.{Plan, Workload, intervals, rowsOf}
+use Rattle.meaning.specs.Curve.{Curve, raw, others, sumOfSmaller, rates, EnvelopeOf}
+use Rattle.meaning.specs.Placement.{shares, AnsweredAt}
+use Rattle.meaning.specs.Refusals.{intervalsRefusal, planRefusal, withoutBudget, coreRefusal, placementRefusal, spanRefusal}
+use Rattle.meaning.specs.PlanFile.{tabulate}
+use Rattle.meaning.specs.Promises.{SpanFigures, noSpanFigures, SpanAnswer}
+use Rattle.laws.specs.Judging.{All}
+use Rattle.laws.specs.Indexed.{listFrom}
+use Rattle.laws.specs.Filling.{walk, fill}
+use Rattle.laws.specs.Merging.{orderTo, merged, weave, picksFrom}
+use Rattle.laws.specs.Spanning.{sought, oneMore}
+use Rattle.laws.specs.Claims.{covered, cornersRight, envelopeRight, curvesRight, envelope-checked, claim-answer, claim-placement}
+use Rattle.demands.specs.Worked.{examplePlan}
+
+infixr 10 _also_
+-- a row: the raw stalls and the corners of a core with budgets 2, 2, 5, 7 and Q = 16; or a workload on a plan and its answer; or a placement at a given W and its stall
+pub data Row : Type 0 where
+  curveRow : (core : ℕ) (raws corners : List ℕ) → Row
+  spanRow : Plan → Workload → SpanFigures → List ℕ → Row
+  placementRow : Plan → (core requests n : ℕ) → (stall : ℕ) → List ℕ → Row
+
+-- the budgets of the table
+abbrev pub budgets : List ℕ
+budgets = 2 ∷ 2 ∷ 5 ∷ 7 ∷ []
+
+-- one interval of 20 periods
+abbrev pub plan : Plan
+plan = record { cores = 4; perPeriod = 16; lengths = 20 ∷ []; budgets = budgets }
+
+-- one core, Q 16, budget 16
+abbrev pub alone : Plan
+alone = record { cores = 1; perPeriod = 16; lengths = 20 ∷ []; budgets = 16 ∷ [] }
+
+-- the three intervals of 004's section VI
+abbrev pub three : Plan
+three =
+    record {
+      cores = 4;
+      perPeriod = 16;
+      lengths = 5 ∷ 3 ∷ 7 ∷ [];
+      budgets = 2 ∷ 2 ∷ 5 ∷ 7 ∷ 2 ∷ 3 ∷ 7 ∷ 4 ∷ 5 ∷ 5 ∷ 1 ∷ 5 ∷ [];
+    }
+
+-- a workload: core, computing, requests, horizon
+abbrev pub load : ℕ → ℕ → ℕ → ℕ → Workload
+load core computing requests horizon =
+    record { core = core; computing = computing; requests = requests; horizon = horizon }
+
+-- an answer: span, stall, rounds
+abbrev pub given : ℕ → ℕ → ℕ → SpanFigures
+given span stall rounds = record { refused = 0; span = span; stall = stall; rounds = rounds }
+
+-- the table
+abbrev pub table : List Row
+table =
+    -- P1
+    curveRow 1 (0 ∷ 3 ∷ 14 ∷ []) (0 ∷ 2 ∷ [])
+    -- P2
+    ∷ curveRow 3 (0 ∷ 3 ∷ 6 ∷ 7 ∷ 8 ∷ 11 ∷ []) (0 ∷ 2 ∷ 5 ∷ [])
+    -- P3
+    ∷ curveRow 4 (0 ∷ 3 ∷ 6 ∷ 7 ∷ 8 ∷ 9 ∷ 9 ∷ 9 ∷ []) (0 ∷ 2 ∷ 5 ∷ 7 ∷ [])
+    -- P4, and with H = 10
+    ∷ spanRow plan (load 3 40 35 20) (given 10 85 3) (35 ∷ [])
+    ∷ spanRow plan (load 3 40 35 10) (given 10 85 3) (35 ∷ [])
+    -- P5
+    ∷ spanRow plan (load 3 40 35 9) (noSpanFigures 12) []
+    -- P6
+    ∷ spanRow plan (load 3 17 0 20) (given 2 0 1) (0 ∷ [])
+    ∷ spanRow plan (load 3 16 0 20) (given 1 0 1) (0 ∷ [])
+    -- P7
+    ∷ spanRow plan (load 3 1 4 20) (given 1 10 1) (4 ∷ [])
+    ∷ spanRow plan (load 3 1 5 20) (given 2 14 2) (5 ∷ [])
+    -- P8
+    ∷ spanRow plan (load 1 1 1 20) (given 1 7 1) (1 ∷ [])
+    ∷ spanRow plan (load 1 1 2 20) (given 2 14 2) (2 ∷ [])
+    -- P9
+    ∷ spanRow alone (load 1 10 22 20) (given 2 0 1) (22 ∷ [])
+    -- P10
+    ∷ spanRow examplePlan (load 3 10 10 5) (given 4 30 3) (2 ∷ 8 ∷ [])
+    ∷ spanRow examplePlan (load 3 10 10 3) (noSpanFigures 12) []
+    -- 004, section VI, at W = 6
+    ∷ placementRow three 3 25 6 58 (22 ∷ 3 ∷ 0 ∷ [])
+    ∷ []
+
+-- what a row says, over the definitions
+abbrev pub RowHolds : Row → Type 0
+RowHolds (curveRow core raws corners) =
+    (tabulate (length raws) (raw 16 budgets core) ≡ raws)
+    × (c : Curve)
+    × EnvelopeOf 16 core budgets c
+    × (rates c ≡ corners)
+RowHolds (spanRow p w a xs) = SpanAnswer p w (intervals p) a xs
+RowHolds (placementRow p core requests n stall xs) = AnsweredAt p core requests n xs stall
+
+-- the corners of cores 1, 3 and 4, of core 3 with equal budgets, and of the core that is alone
+abbrev curve1 : Curve
+curve1 = record { first = record { rate = 0; stall = 0 }; rest = record { rate = 2; stall = 14 } ∷ [] }
+
+abbrev curve3 : Curve
+curve3 =
+    record {
+      first = record { rate = 0; stall = 0 };
+      rest = record { rate = 2; stall = 6 } ∷ record { rate = 5; stall = 11 } ∷ [];
+    }
+
+abbrev curve4 : Curve
+curve4 =
+    record {
+      first = record { rate = 0; stall = 0 };
+      rest = record { rate = 2; stall = 6 } ∷ record { rate = 5; stall = 9 } ∷ record { rate = 7; stall = 9 } ∷ [];
+    }
+
+abbrev equal3 : Curve
+equal3 = record { first = record { rate = 0; stall = 0 }; rest = record { rate = 4; stall = 12 } ∷ [] }
+
+abbrev whole1 : Curve
+whole1 = record { first = record { rate = 0; stall = 0 }; rest = record { rate = 16; stall = 0 } ∷ [] }
+
+abbrev second3 : Curve
+second3 =
+    record {
+      first = record { rate = 0; stall = 0 };
+      rest =
+          record { rate = 2; stall = 6 }
+          ∷ record { rate = 3; stall = 8 }
+          ∷ record { rate = 4; stall = 9 }
+          ∷ record { rate = 7; stall = 9 }
+          ∷ [];
+    }
+
+abbrev third3 : Curve
+third3 = record { first = record { rate = 0; stall = 0 }; rest = record { rate = 1; stall = 15 } ∷ [] }
+
+-- one more row
+abbrev _also_ : {A B : Type 0} → A → B → A × B
+_also_ row later = (row, later)
+
+-- every row of the table holds
+pub table-holds : All RowHolds table
+unfolding raw others sumOfSmaller tabulate covered cornersRight envelopeRight curvesRight rowsOf intervalsRefusal planRefusal withoutBudget coreRefusal placementRefusal spanRefusal shares roundUp listFrom walk fill orderTo merged weave picksFrom sought oneMore
+table-holds =
+    (refl, curve1, envelope-checked (raw 16 budgets 1) 2 curve1 refl, refl)
+    also (refl, curve3, envelope-checked (raw 16 budgets 3) 5 curve3 refl, refl)
+    also (refl, curve4, envelope-checked (raw 16 budgets 4) 7 curve4 refl, refl)
+    also claim-answer plan (load 3 40 35 20) 1 (curve3 ∷ []) refl refl
+    also claim-answer plan (load 3 40 35 10) 1 (curve3 ∷ []) refl refl
+    also claim-answer plan (load 3 40 35 9) 1 (curve3 ∷ []) refl refl
+    also claim-answer plan (load 3 17 0 20) 1 (curve3 ∷ []) refl refl
+    also claim-answer plan (load 3 16 0 20) 1 (curve3 ∷ []) refl refl
+    also claim-answer plan (load 3 1 4 20) 1 (curve3 ∷ []) refl refl
+    also claim-answer plan (load 3 1 5 20) 1 (curve3 ∷ []) refl refl
+    also claim-answer plan (load 1 1 1 20) 1 (curve1 ∷ []) refl refl
+    also claim-answer plan (load 1 1 2 20) 1 (curve1 ∷ []) refl refl
+    also claim-answer alone (load 1 10 22 20) 1 (whole1 ∷ []) refl refl
+    also claim-answer examplePlan (load 3 10 10 5) 2 (curve3 ∷ equal3 ∷ []) refl refl
+    also claim-answer examplePlan (load 3 10 10 3) 2 (curve3 ∷ equal3 ∷ []) refl refl
+    also claim-placement three 3 25 6 3 (curve3 ∷ second3 ∷ third3 ∷ []) refl refl
+    also tt

@@ -1,0 +1,78 @@
+use mathlib.Core.Path.{_≡_, sym, _∙_}
+use mathlib.Core.Bool.{false}
+use denote.Ref.{now}
+use borrow.Author.Needs.{needs}
+use Rattle.meaning.specs.Plan.{Plan}
+use Rattle.meaning.specs.Refusals.{outside, planRefusal, coreRefusal}
+use Rattle.laws.specs.Judging.{inside, sound-plan}
+use Rattle.judge.specs.declared.Judgement.{Judgement}
+use Rattle.judge.specs.Judged.{planOf, PlanJudged, refused-before}
+use Rattle.judge.proofs.plan_and_core.Statement.{statement}
+use Rattle.judge.proofs.plan_and_core.Tie as tie
+
+abbrev planAt : tie.Start → Plan
+planAt c = planOf (c .args .cores) (c .args .each .0) (now (c .args .lengths)) (now (c .args .budgets))
+
+sound : (c : tie.After-found)
+    → PlanJudged (planAt (c .before .before .before .before .before)) (Judgement.Sound (c .found .given .0 .0))
+sound c = rw (c .found .given .1) at (c .before .before .plan .ensures)
+
+within : (c : tie.Else1)
+    → let a = c .before .before .before .before .before .before .before .before .args in
+    outside 1 (a .cores) (a .core) ≡ false
+within c = sym (c .before .outside .ensures) ∙ c .if1 .left
+
+plan-requires : tie.Need-plan-requires
+plan-requires c κs = search needs
+
+enum-known-found : tie.Need-enum-known-found
+enum-known-found c = search needs
+
+enum-told : tie.Need-enum-told
+enum-told c = search needs
+
+returns : tie.Need-returns
+returns c =
+    let told = c .enum-told .given .1 in
+    let number = planRefusal (planAt (c .before .before .before .before .before)) in
+    rw told (refused-before {a = number} (c .enum-told .given .0 .0) _ (rw told at (c .before .before .plan .ensures)))
+
+outside-requires : tie.Need-outside-requires
+outside-requires c κs = search needs
+
+returns-2 : tie.Need-returns-2
+unfolding coreRefusal
+returns-2 c = rw (sound (c .before .before .before) .0, sym (c .before .outside .ensures) ∙ c .if1 .taken)
+
+without-budget-requires : tie.Need-without-budget-requires
+without-budget-requires c κs =
+    let s = sound-plan _ (sound (c .before .before .before) .0) in
+    let core = inside 1 _ _ (within c) in
+    (s .count, core .0, core .1)
+
+returns-3 : tie.Need-returns-3
+unfolding coreRefusal
+returns-3 c =
+    let core = c .before .before in
+    rw (sound (core .before .before .before) .0, within core, sym (c .before .without-budget .ensures) ∙ c .if2 .taken)
+
+returns-4 : tie.Need-returns-4
+unfolding coreRefusal
+returns-4 c =
+    let core = c .before .before in
+    let here = sound (core .before .before .before) in
+    (rw (here .0, within core, sym (c .before .without-budget .ensures) ∙ c .if2 .left), here .1)
+
+pub plan-and-core-spec : {M : Type 1} → statement M
+plan-and-core-spec =
+    tie.close
+    (tie.spec
+    plan-requires
+    enum-known-found
+    enum-told
+    returns
+    outside-requires
+    returns-2
+    without-budget-requires
+    returns-3
+    returns-4)

@@ -1,0 +1,266 @@
+-- The answered placement at W, from an order of the segments of the plan's curves; and that there always is one.
+use mathlib.Core.Path.{_≡_, refl, sym, ap, _∙_, subst, fun-ext}
+use mathlib.Core.Logic.{_⊎_, inl, inr, ⊎-elim}
+use mathlib.Core.List.{List, [], _∷_}
+use Prim.Native.Nat.{ℕ, zero, suc, _+_, _-_, _*_, _≤_, _<_, min, zero-le}
+use native.Mathlib.Nat.{le-refl, le-trans, le-of-lt, lt-of-lt-of-le, not-suc-le-zero, le-of-suc-le-suc, lt-irrefl, zero-add, add-zero, suc-inj}
+use native.Mathlib.Omega.{arith}
+use lib.ListN.{length, getD}
+use Rattle.meaning.specs.Fraction.{Fraction, Proper, _=ᶠ_, roundUp}
+use Rattle.meaning.specs.Plan.{Plan, sumOf, intervals, rows, budgetOf}
+use Rattle.meaning.specs.Curve.{Corner, Curve, raw, others, sumOfSmaller, EnvelopeOf, Envelope}
+use Rattle.meaning.specs.Placement.{Part, shares, PartsOf, total, Answered, GreatestStall, AnsweredAt}
+use Rattle.laws.specs.Order.{le-or-lt}
+use Rattle.laws.specs.Shape.{Concave, first-on}
+use Rattle.laws.specs.Raw.{raw-rises, raw-below, smaller-none}
+use Rattle.laws.specs.Stack.{envelope-exists}
+use Rattle.laws.specs.Fractions.{round-up-same}
+use Rattle.laws.specs.Indexed.{listFrom, sumFrom, sum-same}
+use Rattle.laws.specs.Filling.{Pick, Order, Walk, walk, fill}
+use Rattle.laws.specs.Filled.{stallOf}
+use Rattle.laws.specs.Answering.{walkStall, filled-answered, filled-stall, filled-proper, walk-proper}
+use Rattle.laws.specs.Merging.{none, within, within-inside, within-after, orderTo, order-to}
+use Rattle.laws.specs.Judging.{All, all-at, SoundPlan, SoundCore}
+use Rattle.laws.specs.Values.{WholeRows, plan-whole, row-concave}
+
+-- as many shares as intervals
+pub shares-length : (w : ℕ) (ls : List ℕ) → length (shares w ls) ≡ length ls
+unfolding shares
+shares-length w [] = refl
+shares-length w (l ∷ ls) = ap suc (shares-length (w - l) ls)
+
+step-index : (i j : ℕ) → i + suc j ≡ suc i + j
+step-index i j = omega arith
+
+-- parts that are given for each index
+parts-from : (perPeriod core i : ℕ) (ws : List ℕ) (rs : List (List ℕ)) (s : ℕ → Part)
+    → length ws ≡ length rs
+    → ((j : ℕ) → j < length rs → s (i + j) .share ≡ getD ws j 0)
+    → ((j : ℕ) → j < length rs → EnvelopeOf perPeriod core (getD rs j []) (s (i + j) .curve))
+    → PartsOf perPeriod core ws rs (listFrom i (length rs) s)
+unfolding listFrom
+parts-from perPeriod core i [] [] s len share curve = tt
+parts-from perPeriod core i [] (r ∷ rs) s len share curve = absurd (omega (arith, len))
+parts-from perPeriod core i (w ∷ ws) [] s len share curve = absurd (omega (arith, len))
+parts-from perPeriod core i (w ∷ ws) (r ∷ rs) s len share curve = (
+  subst (λ (j : ℕ). s j .share ≡ w) (add-zero i) (share 0 (omega arith)),
+  subst (λ (j : ℕ). EnvelopeOf perPeriod core r (s j .curve)) (add-zero i) (curve 0 (omega arith)),
+  parts-from perPeriod core (suc i) ws rs s (suc-inj len)
+      (λ j h. subst (λ (k : ℕ). s k .share ≡ getD ws j 0) (step-index i j) (share (suc j) (omega (arith, h))))
+      (λ j h. subst (λ (k : ℕ). EnvelopeOf perPeriod core (getD rs j []) (s k .curve)) (step-index i j) (curve (suc j) (omega (arith, h)))),
+)
+
+none-concave : Concave none
+none-concave = record { starts = refl; rising = tt; climbing = tt; falling = tt }
+
+-- the curves of a plan, given for each interval
+abbrev pub CurvesOf : Plan → ℕ → (ℕ → Curve) → Type 0
+CurvesOf p core curve =
+    (i : ℕ) → i < intervals p → EnvelopeOf (p .perPeriod) core (getD (rows p) i []) (curve i)
+
+module _ (p : Plan) (core : ℕ) (sound : SoundPlan p) where
+  row-whole : (i : ℕ) → i < intervals p → sumOf (getD (rows p) i []) ≡ p .perPeriod
+  row-whole i h =
+      all-at (λ (r : List ℕ). sumOf r ≡ p .perPeriod) (rows p) [] i (plan-whole p sound)
+      (subst (λ (n : ℕ). i < n) (sym (sound .rowsCount)) h)
+
+  inside-rows : (i : ℕ) → i < length (rows p) → i < intervals p
+  inside-rows i h = subst (λ (n : ℕ). i < n) (sound .rowsCount) h
+
+  -- the curve of every interval is concave
+  pub curves-concave : (curve : ℕ → Curve) → CurvesOf p core curve → (i : ℕ) → Concave (within 0 (intervals p) curve i)
+  curves-concave curve env i =
+      ⊎-elim
+      (λ past. subst Concave (sym (within-after 0 (intervals p) i curve past)) none-concave)
+      (λ inside.
+      subst
+      Concave
+      (sym (within-inside 0 (intervals p) i curve zero-le inside))
+      (row-concave (p .perPeriod) core (getD (rows p) i []) (curve i) (row-whole i inside) (env i inside)))
+      (le-or-lt (intervals p) i)
+
+  -- a curve starts at stall 0, where the core has a budget
+  starts-at-none : (curve : ℕ → Curve)
+      → SoundCore p core
+      → CurvesOf p core curve
+      → (i : ℕ)
+      → within 0 (intervals p) curve i .first .stall ≡ 0
+  starts-at-none curve budgets env i =
+      ⊎-elim
+      (λ past. ap (λ (c : Curve). c .first .stall) (within-after 0 (intervals p) i curve past))
+      (λ inside.
+      let r = getD (rows p) i [] in
+      let e = env i inside in
+      let some : 1 ≤ budgetOf core r =
+      all-at (λ (row : List ℕ). 1 ≤ budgetOf core row) (rows p) [] i (budgets .budgets)
+      (subst (λ (n : ℕ). i < n) (sym (sound .rowsCount)) inside) in
+      ap (λ (c : Curve). c .first .stall) (within-inside 0 (intervals p) i curve zero-le inside)
+      ∙ first-on (raw (p .perPeriod) r core) (curve i .first) (curve i .rest) (e .onRaw)
+      ∙ ap (raw (p .perPeriod) r core) (e .starts)
+      ∙ raw-below (p .perPeriod) r core 0 some
+      ∙ smaller-none (others (core - 1) r))
+      (le-or-lt (intervals p) i)
+
+  no-stall : (n : ℕ) (share : ℕ → ℕ) (curve : ℕ → Curve) (i : ℕ)
+      → ((j : ℕ) → curve j .first .stall ≡ 0)
+      → sumFrom i n (λ j. share j * curve j .first .stall) ≡ 0
+  unfolding sumFrom
+  no-stall zero share curve i all = refl
+  no-stall (suc n) share curve i all =
+      omega (
+        arith,
+        ap (λ (m : ℕ). share i * m) (all i),
+        no-stall n share curve (suc i) all,
+      )
+
+  module _ (budgets : SoundCore p core) (curve : ℕ → Curve) (env : CurvesOf p core curve) (o : List Pick)
+      (order : Order (within 0 (intervals p) curve) o) (w requests : ℕ) (share : ℕ → ℕ)
+      (given : (i : ℕ) → i < intervals p → share i ≡ getD (shares w (p .lengths)) i 0) where
+    curves : ℕ → Curve
+    curves = within 0 (intervals p) curve
+
+    parts : List Part
+    parts = listFrom 0 (intervals p) (λ j. record { share = share j; curve = within 0 (intervals p) curve j })
+
+    of-plan : PartsOf (p .perPeriod) core (shares w (p .lengths)) (rows p) parts
+    unfolding parts
+    of-plan =
+        subst
+        (λ (n : ℕ). PartsOf (p .perPeriod) core (shares w (p .lengths)) (rows p) (listFrom 0 n (λ j. record { share = share j; curve = within 0 (intervals p) curve j })))
+        (sound .rowsCount)
+        (parts-from (p .perPeriod) core 0 (shares w (p .lengths)) (rows p)
+        (λ j. record { share = share j; curve = within 0 (intervals p) curve j })
+        (shares-length w (p .lengths) ∙ sym (sound .rowsCount))
+        (λ j h. ap share (zero-add j) ∙ given j (inside-rows j h))
+        (λ j h.
+        subst
+        (EnvelopeOf (p .perPeriod) core (getD (rows p) j []))
+        (sym (ap (within 0 (intervals p) curve) (zero-add j) ∙ within-inside 0 (intervals p) j curve zero-le (inside-rows j h)))
+        (env j (inside-rows j h))))
+
+    ends : (i : ℕ) → intervals p ≤ i → within 0 (intervals p) curve i .rest ≡ []
+    ends i past = ap (λ (c : Curve). c .rest) (within-after 0 (intervals p) i curve past)
+
+    -- filling by the order gives the answered placement at W, and the walk its stall
+    pub answered-by-order :
+        AnsweredAt
+        p
+        core
+        requests
+        w
+        (listFrom 0 (intervals p) (fill share o requests (λ j. 0)))
+        (roundUp (walkStall 0 (walk share o requests)))
+    unfolding parts
+    answered-by-order =
+        let n = intervals p in
+        let concave = curves-concave curve env in
+        let none-first : stallOf n share (within 0 n curve) concave (within 0 n curve) ≡ 0 =
+        no-stall n share (within 0 n curve) 0 (starts-at-none curve budgets env) in
+        let value = filled-stall n share (within 0 n curve) concave o requests order ends in
+        record {
+          parts = parts;
+          ofPlan = of-plan;
+          answered = filled-answered n share (within 0 n curve) concave o requests order ends;
+          rounded =
+              sym
+              (round-up-same
+              _
+              (walkStall 0 (walk share o requests))
+              (filled-proper n share (within 0 n curve) concave o requests order ends)
+              (walk-proper n share (within 0 n curve) concave o requests order ends)
+              (subst
+              (λ (m : ℕ). total parts (listFrom 0 n (fill share o requests (λ j. 0))) =ᶠ walkStall m (walk share o requests))
+              none-first
+              value));
+        }
+
+-- the intervals of a group, and nothing of the others, twice over
+within-twice : (n : ℕ) (curve : ℕ → Curve) → within 0 n (within 0 n curve) ≡ within 0 n curve
+within-twice n curve =
+    fun-ext λ i.
+    ⊎-elim
+    (λ past. within-after 0 n i (within 0 n curve) past ∙ sym (within-after 0 n i curve past))
+    (λ inside. within-inside 0 n i (within 0 n curve) zero-le inside)
+    (le-or-lt n i)
+
+-- the answered placement and its stall at W, by the order of all segments merged interval by interval
+pub answered-in-order : (p : Plan) (core : ℕ) (sound : SoundPlan p) (budgets : SoundCore p core) (curve : ℕ → Curve)
+    → CurvesOf p core curve
+    → (w requests : ℕ)
+    → AnsweredAt
+    p
+    core
+    requests
+    w
+    (listFrom
+    0
+    (intervals p)
+    (fill (λ i. getD (shares w (p .lengths)) i 0) (orderTo (intervals p) (within 0 (intervals p) curve)) requests (λ j. 0)))
+    (roundUp
+    (walkStall
+    0
+    (walk (λ i. getD (shares w (p .lengths)) i 0) (orderTo (intervals p) (within 0 (intervals p) curve)) requests)))
+answered-in-order p core sound budgets curve env w requests =
+    let n = intervals p in
+    answered-by-order p core sound budgets curve env (orderTo n (within 0 n curve))
+    (subst
+    (λ (now : ℕ → Curve). Order now (orderTo n (within 0 n curve)))
+    (within-twice n curve)
+    (order-to n (within 0 n curve) (curves-concave p core sound curve env)))
+    w
+    requests
+    (λ i. getD (shares w (p .lengths)) i 0)
+    (λ i h. refl)
+
+-- an answered placement is one of greatest stall
+pub answered-greatest : (p : Plan) (core requests w : ℕ) (xs : List ℕ) (s : ℕ)
+    → (h : AnsweredAt p core requests w xs s)
+    → GreatestStall p core requests w (total (h .parts) xs)
+answered-greatest p core requests w xs s h =
+    record {
+      parts = h .parts;
+      ofPlan = h .ofPlan;
+      placement = xs;
+      greatest = h .answered .greatest;
+      value = refl;
+    }
+
+module _ (p : Plan) (core : ℕ) (sound : SoundPlan p) (budgets : SoundCore p core) where
+  -- the envelope of interval i, where there is such an interval
+  chosen : (i : ℕ) → (intervals p ≤ i) ⊎ (i < intervals p) → Curve
+  chosen i (inl past) = none
+  chosen i (inr inside) =
+      envelope-exists (raw (p .perPeriod) (getD (rows p) i []) core) (budgetOf core (getD (rows p) i []))
+      (raw-rises (p .perPeriod) (getD (rows p) i []) core (row-whole p core sound i inside)) .0
+
+  chosen-envelope : (i : ℕ) (at : (intervals p ≤ i) ⊎ (i < intervals p))
+      → i < intervals p
+      → EnvelopeOf (p .perPeriod) core (getD (rows p) i []) (chosen i at)
+  unfolding chosen
+  chosen-envelope i (inl past) inside = absurd (lt-irrefl i (lt-of-lt-of-le inside past))
+  chosen-envelope i (inr here) inside =
+      envelope-exists (raw (p .perPeriod) (getD (rows p) i []) core) (budgetOf core (getD (rows p) i []))
+      (raw-rises (p .perPeriod) (getD (rows p) i []) core (row-whole p core sound i here)) .1
+
+  curveFor : ℕ → Curve
+  curveFor i = chosen i (le-or-lt (intervals p) i)
+
+  curves-given : CurvesOf p core curveFor
+  unfolding curveFor
+  curves-given i inside = chosen-envelope i (le-or-lt (intervals p) i) inside
+
+  -- at every W there is an answered placement
+  pub answered-exists : (requests w : ℕ) → (xs : List ℕ) × (s : ℕ) × AnsweredAt p core requests w xs s
+  answered-exists requests w =
+      let share : ℕ → ℕ = λ i. getD (shares w (p .lengths)) i 0 in
+      let o = orderTo (intervals p) (within 0 (intervals p) curveFor) in (
+        listFrom 0 (intervals p) (fill share o requests (λ j. 0)),
+        roundUp (walkStall 0 (walk share o requests)),
+        answered-in-order p core sound budgets curveFor curves-given w requests,
+      )
+
+  -- and a greatest stall
+  pub greatest-exists : (requests w : ℕ) → (f : Fraction) × GreatestStall p core requests w f
+  greatest-exists requests w =
+      let h = answered-exists requests w in
+      (total (h .2 .parts) (h .0), answered-greatest p core requests w (h .0) (h .1) (h .2))

@@ -1,0 +1,126 @@
+-- S grows with the shares and with the requests.
+use mathlib.Core.Path.{_≡_, refl, sym, ap, _∙_, subst, subst₂}
+use mathlib.Core.Logic.{⊎-elim}
+use mathlib.Core.List.{List, [], _∷_}
+use Prim.Native.Nat.{ℕ, zero, suc, _+_, _-_, _*_, _≤_, _<_, min}
+use native.Mathlib.Nat.{le-refl, le-trans, mul-le-mul-right, mul-le-mul-left}
+use native.Mathlib.Omega.{arith}
+use Rattle.meaning.specs.Fraction.{Fraction, Proper, whole, _≤ᶠ_, _+ᶠ_}
+use Rattle.meaning.specs.Plan.{Plan, sumOf, rows, budgetOf}
+use Rattle.meaning.specs.Curve.{Curve, limit, raw, EnvelopeOf}
+use Rattle.meaning.specs.Placement.{Part, shares, PartsOf, Fitting, Placement, total, Greatest, GreatestStall}
+use Rattle.laws.specs.Shape.{Concave}
+use Rattle.laws.specs.Raw.{raw-rises}
+use Rattle.laws.specs.Unique.{envelope-unique}
+use Rattle.laws.specs.Fractions.{le-trans-fraction, sum-le}
+use Rattle.laws.specs.Passing.{stall-proper}
+use Rattle.laws.specs.Certificate.{partStall}
+use Rattle.laws.specs.Tangent.{stall-grows-periods}
+use Rattle.laws.specs.Judging.{All, SoundPlan}
+use Rattle.laws.specs.Values.{WholeRows, plan-whole, parts-concave, parts-proper}
+
+-- the same curves with shares that are no smaller
+abbrev pub NoSmaller : List Part → List Part → Type 0
+NoSmaller [] [] = Unit {0}
+NoSmaller [] (q ∷ qs) = ⊥
+NoSmaller (p ∷ ps) [] = ⊥
+NoSmaller (p ∷ ps) (q ∷ qs) = (p .share ≤ q .share) × (p .curve ≡ q .curve) × NoSmaller ps qs
+
+-- more of W, no less for any interval
+abbrev NoLess : List ℕ → List ℕ → Type 0
+NoLess [] [] = Unit {0}
+NoLess [] (y ∷ ys) = ⊥
+NoLess (x ∷ xs) [] = ⊥
+NoLess (x ∷ xs) (y ∷ ys) = (x ≤ y) × NoLess xs ys
+
+shares-grow : (w v : ℕ) (ls : List ℕ) → w ≤ v → NoLess (shares w ls) (shares v ls)
+unfolding shares
+shares-grow w v [] le = tt
+shares-grow w v (l ∷ ls) le = (omega (arith, le), shares-grow (w - l) (v - l) ls (omega (arith, le)))
+
+parts-grow : (perPeriod core : ℕ) (ws vs : List ℕ) (rs : List (List ℕ)) (ps qs : List Part)
+    → WholeRows perPeriod rs
+    → NoLess ws vs
+    → PartsOf perPeriod core ws rs ps
+    → PartsOf perPeriod core vs rs qs
+    → NoSmaller ps qs
+parts-grow perPeriod core [] [] [] [] [] sums le hp hq = tt
+parts-grow perPeriod core (w ∷ ws) (v ∷ vs) (r ∷ rs) (p ∷ ps) (q ∷ qs) sums le hp hq = (
+  omega (arith, le .0, hp .0, hq .0),
+  envelope-unique
+      (raw perPeriod r core)
+      (budgetOf core r)
+      (p .curve)
+      (q .curve)
+      (raw-rises perPeriod r core (sums .0))
+      (hp .1)
+      (hq .1),
+  parts-grow perPeriod core ws vs rs ps qs (sums .1) (le .1) (hp .2) (hq .2),
+)
+
+-- a placement fits larger shares
+fits-grow : (ps qs : List Part) (xs : List ℕ) → NoSmaller ps qs → Fitting ps xs → Fitting qs xs
+fits-grow [] [] [] g h = tt
+fits-grow (p ∷ ps) (q ∷ qs) (x ∷ xs) g h = (
+  le-trans (h .0)
+      (subst
+      (λ (c : Curve). p .share * limit (p .curve) ≤ q .share * limit c)
+      (g .1)
+      (mul-le-mul-right (limit (p .curve)) (g .0))),
+  fits-grow ps qs xs (g .2) (h .1),
+)
+
+-- and stalls no less there
+total-grows : (ps qs : List Part) (xs : List ℕ)
+    → All (λ (p : Part). Concave (p .curve)) ps
+    → NoSmaller ps qs
+    → Fitting ps xs
+    → total ps xs ≤ᶠ total qs xs
+unfolding total
+total-grows [] [] [] sound g h = le-refl 0
+total-grows (p ∷ ps) (q ∷ qs) (x ∷ xs) sound g h =
+    sum-le (partStall p x) (total ps xs) (partStall q x) (total qs xs)
+    (subst
+    (λ (c : Curve). partStall p x ≤ᶠ partStall (record { share = q .share; curve = c }) x)
+    (g .1)
+    (stall-grows-periods (p .curve) (p .share) (q .share) x (sound .0) (g .0) (h .0)))
+    (total-grows ps qs xs (sound .1) (g .2) (h .1))
+
+-- S grows with the shares and with the requests
+pub greatest-grows : (ps qs : List Part) (r s : ℕ) (xs ys : List ℕ)
+    → All (λ (p : Part). Concave (p .curve)) ps
+    → All (λ (p : Part). Concave (p .curve)) qs
+    → NoSmaller ps qs
+    → r ≤ s
+    → Greatest ps r xs
+    → Greatest qs s ys
+    → total ps xs ≤ᶠ total qs ys
+greatest-grows ps qs r s xs ys soundP soundQ g le gx gy =
+    le-trans-fraction (total ps xs) (total qs xs) (total qs ys) (parts-proper qs xs soundQ)
+    (total-grows ps qs xs soundP g (gx .placed .fitting))
+    (gy .most xs
+    (record { fitting = fits-grow ps qs xs g (gx .placed .fitting); within = le-trans (gx .placed .within) le }))
+
+-- S(W) grows with W and with the requests
+pub stall-grows : (p : Plan) (core : ℕ) → SoundPlan p
+    → (r s w v : ℕ) (f g : Fraction)
+    → r ≤ s
+    → w ≤ v
+    → GreatestStall p core r w f
+    → GreatestStall p core s v g
+    → f ≤ᶠ g
+stall-grows p core sound r s w v f g requests periods hf hg =
+    let sums = plan-whole p sound in
+    let larger =
+    parts-grow (p .perPeriod) core (shares w (p .lengths)) (shares v (p .lengths)) (rows p) (hf .parts) (hg .parts) sums
+    (shares-grow w v (p .lengths) periods)
+    (hf .ofPlan)
+    (hg .ofPlan) in
+    subst₂ _≤ᶠ_ (sym (hf .value)) (sym (hg .value))
+    (greatest-grows (hf .parts) (hg .parts) r s (hf .placement) (hg .placement)
+    (parts-concave (p .perPeriod) core (shares w (p .lengths)) (rows p) (hf .parts) sums (hf .ofPlan))
+    (parts-concave (p .perPeriod) core (shares v (p .lengths)) (rows p) (hg .parts) sums (hg .ofPlan))
+    larger
+    requests
+    (hf .greatest)
+    (hg .greatest))

@@ -1,0 +1,65 @@
+-- What the laws ask of a raw stall and of a curve. Nothing here speaks of cores, and no curve has to start at height 0 or to have a segment.
+use mathlib.Core.Path.{_≡_, refl, sym, ap, _∙_, subst}
+use mathlib.Core.List.{List, [], _∷_}
+use Prim.Native.Nat.{ℕ, _≤_}
+use native.Mathlib.Nat.{le-trans, le-of-lt, le-refl}
+use native.Mathlib.Omega.{arith}
+use Rattle.meaning.specs.Curve.{Corner, Curve, lastOf, limit, OnRaw, Rising, Falling, Envelope}
+
+-- a raw stall that does not fall over 0..q
+abbrev pub Rises : (ℕ → ℕ) → ℕ → Type 0
+Rises stallAt q = (r s : ℕ) → r ≤ s → s ≤ q → stallAt r ≤ stallAt s
+
+-- the stalls of the corners do not fall
+abbrev pub Climbing : Corner → List Corner → Type 0
+Climbing a [] = Unit {0}
+Climbing a (b ∷ cs) = (a .stall ≤ b .stall) × Climbing b cs
+
+-- a curve from rate 0, whose rates rise, whose stalls do not fall, and whose slopes strictly fall
+pub record Concave (c : Curve) : Type 0 where
+  pub starts : c .first .rate ≡ 0
+  pub rising : Rising (c .first) (c .rest)
+  pub climbing : Climbing (c .first) (c .rest)
+  pub falling : Falling (c .first) (c .rest)
+
+-- the first rate is at most the last
+pub rate-le-last : (a : Corner) (cs : List Corner) → Rising a cs → a .rate ≤ lastOf a cs .rate
+rate-le-last a [] h = le-refl (a .rate)
+rate-le-last a (b ∷ cs) h = le-trans (le-of-lt (h .0)) (rate-le-last b cs (h .1))
+
+-- the first corner is a point of the raw stall
+pub first-on : (stallAt : ℕ → ℕ) (a : Corner) (cs : List Corner) → OnRaw stallAt a cs → a .stall ≡ stallAt (a .rate)
+first-on stallAt a [] h = h
+first-on stallAt a (b ∷ cs) h = h .0
+
+climbs : (stallAt : ℕ → ℕ) (q : ℕ) (a : Corner) (cs : List Corner)
+    → Rises stallAt q
+    → lastOf a cs .rate ≤ q
+    → OnRaw stallAt a cs
+    → Rising a cs
+    → Climbing a cs
+climbs stallAt q a [] rises le on up = tt
+climbs stallAt q a (b ∷ cs) rises le on up =
+    let below : b .rate ≤ q = le-trans (rate-le-last b cs (up .1)) le in
+    let here = first-on stallAt b cs (on .1) in
+    let step = rises (a .rate) (b .rate) (le-of-lt (up .0)) below in
+    (omega (arith, on .0, here, step), climbs stallAt q b cs rises le (on .1) (up .1))
+
+-- the envelope of a raw stall that does not fall is such a curve
+pub envelope-concave : (stallAt : ℕ → ℕ) (q : ℕ) (c : Curve) → Rises stallAt q → Envelope stallAt q c → Concave c
+envelope-concave stallAt q c rises e =
+    record {
+      starts = e .starts;
+      rising = e .rising;
+      climbing =
+          climbs
+          stallAt
+          q
+          (c .first)
+          (c .rest)
+          rises
+          (subst (λ (n : ℕ). n ≤ q) (sym (e .ends)) (le-refl q))
+          (e .onRaw)
+          (e .rising);
+      falling = e .falling;
+    }

@@ -1,0 +1,327 @@
+-- Every workload has a span or none, and at the span all requests are placed.
+use mathlib.Core.Path.{_≡_, refl, sym, ap, ap₂, _∙_, subst}
+use mathlib.Core.Bool.{cond}
+use mathlib.Core.Logic.{_⊎_, inl, inr, ⊎-elim}
+use mathlib.Core.List.{List, [], _∷_}
+use Prim.Native.Nat.{ℕ, zero, suc, _+_, _-_, _*_, _≤_, _<_, min}
+use native.Mathlib.Nat.{le-refl, le-trans, le-of-eq, le-of-lt, lt-irrefl, lt-of-lt-of-le, eq-or-lt-of-le, mul-le-mul-right, le-of-mul-le-mul-right, mul-pos}
+use native.Mathlib.Omega.{arith}
+use Rattle.meaning.specs.Fraction.{Fraction, Proper, whole, _≤ᶠ_, _=ᶠ_, _+ᶠ_, roundUp}
+use Rattle.meaning.specs.Plan.{Plan, Workload, sumOf, periods, rows, budgetOf}
+use Rattle.meaning.specs.Curve.{Corner, Curve, lastOf, limit, OnRaw, Rising, raw, EnvelopeOf, intervalStall, stallFrom}
+use Rattle.meaning.specs.Placement.{Part, shares, PartsOf, Fitting, Placement, total, Greatest, Answered, AnsweredAt}
+use Rattle.meaning.specs.Span.{work, Holds, IsSpan, NoSpan, firstTerm, NextTerm, SettlesFrom, Rounds}
+use Rattle.laws.specs.Order.{le-or-lt, eq-or-ne}
+use Rattle.laws.specs.Shape.{Climbing, Concave, first-on}
+use Rattle.laws.specs.Raw.{raw-full, raw-le}
+use Rattle.laws.specs.Fractions.{le-trans-fraction, sum-le, same-trans}
+use Rattle.laws.specs.Price.{Passed, here, step}
+use Rattle.laws.specs.Passing.{stall-proper, passed-same}
+use Rattle.laws.specs.Certificate.{partStall}
+use Rattle.laws.specs.Tangent.{stall-grows-requests}
+use Rattle.laws.specs.Judging.{All, SoundPlan, SoundCore}
+use Rattle.laws.specs.Values.{WholeRows, plan-whole, parts-unique, parts-concave, parts-proper, stall-value-proper, stall-value-same}
+use Rattle.laws.specs.Existing.{answered-exists, answered-greatest}
+use Rattle.laws.specs.Searching.{next-of-stall, AtMostSpan, Climbs, holds-first, holds-next, settled-span, past-no-span, first-climbs, next-climbs, first-positive}
+use lib.Arith.{lt-of-le-ne}
+use lib.Dec.{ltb, eqb}
+use borrow.Author.Tests.{lt-ltb, le-ltb, eq-eqb, ne-eqb}
+
+-- what a search finds: a span with the rounds, or nothing
+pub data Sought : Type 0 where
+  found : ℕ → ℕ → Sought
+  nothing : Sought
+
+-- a search that took one term more
+unfoldable pub oneMore : Sought → Sought
+oneMore (found n k) = found n (suc k)
+oneMore nothing = nothing
+
+-- the search from term t, by a function that gives each term's next
+unfoldable pub sought : (ℕ → ℕ) → ℕ → ℕ → ℕ → Sought
+sought next horizon zero t = nothing
+sought next horizon (suc fuel) t =
+    let later = oneMore (sought next horizon fuel (next t)) in
+    cond (ltb horizon t) nothing (cond (eqb (next t) t) (found t 1) later)
+
+sought-past : (next : ℕ → ℕ) (horizon fuel t : ℕ) → horizon < t → sought next horizon (suc fuel) t ≡ nothing
+unfolding sought
+sought-past next horizon fuel t past = rw (lt-ltb horizon t past)
+
+sought-settled : (next : ℕ → ℕ) (horizon fuel t : ℕ) → t ≤ horizon → next t ≡ t → sought next horizon (suc fuel) t ≡ found t 1
+unfolding sought
+sought-settled next horizon fuel t inside e = rw (le-ltb horizon t inside, eq-eqb (next t) t e)
+
+sought-further : (next : ℕ → ℕ) (horizon fuel t : ℕ)
+    → t ≤ horizon
+    → (next t ≡ t → ⊥)
+    → sought next horizon (suc fuel) t ≡ oneMore (sought next horizon fuel (next t))
+unfolding sought
+sought-further next horizon fuel t inside other = rw (le-ltb horizon t inside, ne-eqb (next t) t other)
+
+module _ (p : Plan) (w : Workload) (sound : SoundPlan p) (next : ℕ → ℕ) (right : (t : ℕ) → NextTerm p w t (next t)) where
+  -- what is found is the span with its rounds from a term on, and nothing only where there is no span
+  abbrev pub Right : ℕ → Sought → Type 0
+  Right t (found n k) = IsSpan p w n × SettlesFrom p w k t n
+  Right t nothing = NoSpan p w
+
+  one-more-right : (t : ℕ) (s : Sought) → t ≤ w .horizon → (next t ≡ t → ⊥) → Right (next t) s → Right t (oneMore s)
+  unfolding oneMore
+  one-more-right t (found n k) inside other h = (h .0, (inside, next t, right t, inr (other, h .1)))
+  one-more-right t nothing inside other h = h
+
+  nothing-right : (t : ℕ) → w .horizon < 0 + t → AtMostSpan p w sound t → Right t (sought next (w .horizon) 0 t)
+  unfolding sought
+  nothing-right t past under = past-no-span p w sound t (omega (arith, past)) under
+
+  sought-right : (fuel t : ℕ)
+      → w .horizon < fuel + t
+      → 1 ≤ t
+      → Climbs p w sound t
+      → AtMostSpan p w sound t
+      → Right t (sought next (w .horizon) fuel t)
+  sought-right zero t past some climbs under = nothing-right t past under
+  sought-right (suc fuel) t past some climbs under =
+      ⊎-elim
+      (λ inside.
+      ⊎-elim
+      (λ e.
+      let settled : NextTerm p w t t = subst (λ (n : ℕ). NextTerm p w t n) e (right t) in
+      subst
+      (Right t)
+      (sym (sought-settled next (w .horizon) fuel t inside e))
+      (settled-span p w sound t some inside under settled, (inside, t, settled, inl (refl, refl, refl))))
+      (λ other.
+      let up : t < next t = lt-of-le-ne (climbs (next t) (right t)) (λ e. other (sym e)) in
+      let enough : w .horizon < fuel + next t = omega (arith, past, up) in
+      let positive : 1 ≤ next t = omega (arith, some, up) in
+      subst
+      (Right t)
+      (sym (sought-further next (w .horizon) fuel t inside other))
+      (one-more-right t (sought next (w .horizon) fuel (next t)) inside other
+      (sought-right fuel (next t) enough positive
+      (next-climbs p w sound t (next t) climbs (right t))
+      (λ n holds. holds-next p w sound n t (next t) holds (under n holds) (right t)))))
+      (eq-or-ne (next t) t))
+      (λ beyond.
+      subst (Right t) (sym (sought-past next (w .horizon) fuel t beyond)) (past-no-span p w sound t beyond under))
+      (le-or-lt t (w .horizon))
+
+  -- the search from the first term
+  pub search-right : 1 ≤ w .computing → Right (firstTerm p w) (sought next (w .horizon) (suc (w .horizon)) (firstTerm p w))
+  search-right some =
+      sought-right (suc (w .horizon)) (firstTerm p w) (omega arith) (first-positive p w sound some) (first-climbs p w sound)
+      (λ n holds. holds-first p w sound n holds)
+
+-- every interval has as many requests as it takes
+abbrev Full : List Part → List ℕ → Type 0
+Full [] [] = Unit {0}
+Full [] (x ∷ xs) = ⊥
+Full (p ∷ ps) [] = ⊥
+Full (p ∷ ps) (x ∷ xs) = (x ≡ p .share * limit (p .curve)) × Full ps xs
+
+-- a placement with one request more that stalls no less
+pub record OneMore (ps : List Part) (xs : List ℕ) : Type 0 where
+  pub ys : List ℕ
+  pub fitting : Fitting ps ys
+  pub more : sumOf ys ≡ suc (sumOf xs)
+  pub noLess : total ps xs ≤ᶠ total ps ys
+
+full-or-more : (ps : List Part) (xs : List ℕ)
+    → All (λ (p : Part). Concave (p .curve)) ps
+    → Fitting ps xs
+    → Full ps xs ⊎ OneMore ps xs
+unfolding total
+full-or-more [] [] sound fits = inl tt
+full-or-more (p ∷ ps) (x ∷ xs) sound fits =
+    ⊎-elim
+    (λ e.
+    ⊎-elim
+    (λ full. inl (e, full))
+    (λ more.
+    inr
+    (record {
+      ys = x ∷ more .ys;
+      fitting = (fits .0, more .fitting);
+      more = omega (arith, more .more);
+      noLess =
+          sum-le (partStall p x) (total ps xs) (partStall p x) (total ps (more .ys))
+          (le-refl (partStall p x .num * partStall p x .den))
+          (more .noLess);
+    }))
+    (full-or-more ps xs (sound .1) (fits .1)))
+    (λ less.
+    inr
+    (record {
+      ys = suc x ∷ xs;
+      fitting = (less, fits .1);
+      more = omega arith;
+      noLess =
+          sum-le (partStall p x) (total ps xs) (partStall p (suc x)) (total ps xs)
+          (stall-grows-requests (p .curve) (p .share) x (suc x) (sound .0) (omega arith) less)
+          (le-refl (total ps xs .num * total ps xs .den));
+    }))
+    (eq-or-lt-of-le (fits .0))
+
+-- an answered placement that leaves requests over is full
+left-over-full : (ps : List Part) (requests : ℕ) (xs : List ℕ)
+    → All (λ (p : Part). Concave (p .curve)) ps
+    → Answered ps requests xs
+    → sumOf xs < requests
+    → Full ps xs
+left-over-full ps requests xs sound a less =
+    ⊎-elim
+    (λ full. full)
+    (λ more.
+    let greater : Greatest ps requests (more .ys) =
+    record {
+      placed = record { fitting = more .fitting; within = omega (arith, more .more, less) };
+      most =
+          λ zs h.
+          le-trans-fraction (total ps zs) (total ps xs) (total ps (more .ys)) (parts-proper ps xs sound)
+          (a .greatest .most zs h)
+          (more .noLess);
+    } in
+    absurd (lt-irrefl (sumOf xs) (omega (arith, more .more, a .mostPlaced (more .ys) greater))))
+    (full-or-more ps xs sound (a .greatest .placed .fitting))
+
+to-last : (a : Corner) (cs : List Corner) → Passed (λ (b c : Corner). Unit {0}) a cs (lastOf a cs) []
+to-last a [] = here
+to-last a (b ∷ cs) = step tt (to-last b cs)
+
+-- filled to the last corner an interval stalls w times that corner's stall
+stall-at-last : (w : ℕ) (a : Corner) (cs : List Corner)
+    → Rising a cs
+    → Climbing a cs
+    → stallFrom a cs w (w * lastOf a cs .rate) =ᶠ whole (w * lastOf a cs .stall)
+unfolding stallFrom
+stall-at-last w a cs up climb =
+    passed-same w (w * lastOf a cs .rate) a (lastOf a cs) cs [] up climb (to-last a cs) (le-refl (w * lastOf a cs .rate))
+
+last-on : (stallAt : ℕ → ℕ) (a : Corner) (cs : List Corner) → OnRaw stallAt a cs → lastOf a cs .stall ≡ stallAt (lastOf a cs .rate)
+last-on stallAt a [] on = on
+last-on stallAt a (b ∷ cs) on = last-on stallAt b cs (on .1)
+
+-- requests and stall together use so many slots
+abbrev pub Uses : Fraction → ℕ → ℕ → Type 0
+Uses f x n = f .num + x * f .den ≡ n * f .den
+
+uses-sum : (f g : Fraction) (x y m n : ℕ) → Uses f x m → Uses g y n → Uses (f +ᶠ g) (x + y) (m + n)
+uses-sum f g x y m n ef eg = omega (arith, ap (λ (k : ℕ). k * g .den) ef, ap (λ (k : ℕ). k * f .den) eg)
+
+uses-core : (f : Fraction) (w q h n : ℕ) → f =ᶠ whole (w * h) → q + h ≡ n → Uses f (w * q) (w * n)
+uses-core f w q h n value sum = omega (arith, value, ap (λ (k : ℕ). w * k * f .den) sum)
+
+-- a full interval uses all slots of its share
+full-uses : (perPeriod core w : ℕ) (r : List ℕ) (c : Curve)
+    → sumOf r ≡ perPeriod
+    → EnvelopeOf perPeriod core r c
+    → Concave c
+    → Uses (intervalStall c w (w * limit c)) (w * limit c) (w * perPeriod)
+full-uses perPeriod core w r c sums e sound =
+    let q = budgetOf core r in
+    let stall : lastOf (c .first) (c .rest) .stall ≡ perPeriod - q =
+    last-on (raw perPeriod r core) (c .first) (c .rest) (e .onRaw)
+    ∙ ap (raw perPeriod r core) (e .ends)
+    ∙ raw-full perPeriod r core q (le-refl q) in
+    let room = raw-le perPeriod r core sums q (le-refl q) in
+    let whole-period : limit c + lastOf (c .first) (c .rest) .stall ≡ perPeriod =
+    omega (arith, e .ends, stall, room, raw-full perPeriod r core q (le-refl q)) in
+    uses-core
+    (intervalStall c w (w * limit c))
+    w
+    (limit c)
+    (lastOf (c .first) (c .rest) .stall)
+    perPeriod
+    (stall-at-last w (c .first) (c .rest) (sound .rising) (sound .climbing))
+    whole-period
+
+all-uses : (perPeriod core : ℕ) (ws : List ℕ) (rs : List (List ℕ)) (ps : List Part) (xs : List ℕ)
+    → WholeRows perPeriod rs
+    → PartsOf perPeriod core ws rs ps
+    → All (λ (p : Part). Concave (p .curve)) ps
+    → Full ps xs
+    → Uses (total ps xs) (sumOf xs) (sumOf ws * perPeriod)
+unfolding total
+all-uses perPeriod core [] [] [] [] sums h sound full = omega arith
+all-uses perPeriod core (w ∷ ws) (r ∷ rs) (p ∷ ps) (x ∷ xs) sums h sound full =
+    let first = full-uses perPeriod core (p .share) r (p .curve) (sums .0) (h .1) (sound .0) in
+    let here-uses : Uses (partStall p x) x (w * perPeriod) =
+    subst (λ (n : ℕ). Uses (partStall p n) n (w * perPeriod)) (sym (full .0))
+    (subst (λ (v : ℕ). Uses (intervalStall (p .curve) (p .share) (p .share * limit (p .curve))) (p .share * limit (p .curve)) (v * perPeriod)) (h .0) first) in
+    let later = all-uses perPeriod core ws rs ps xs (sums .1) (h .2) (sound .1) (full .1) in
+    let both = uses-sum (partStall p x) (total ps xs) x (sumOf xs) (w * perPeriod) (sumOf ws * perPeriod) here-uses later in
+    omega (arith, both)
+
+-- all of W is shared out, where the plan has so many periods
+shares-sum : (w : ℕ) (ls : List ℕ) → w ≤ sumOf ls → sumOf (shares w ls) ≡ w
+unfolding shares
+shares-sum w [] le = omega (arith, le)
+shares-sum w (l ∷ ls) le = omega (arith, shares-sum (w - l) ls (omega (arith, le)))
+
+-- more work than requests placed does not fit beside a stall that fills the periods
+too-long : (n x t q v : ℕ) (f g : Fraction)
+    → Proper f
+    → Proper g
+    → f =ᶠ g
+    → Uses f x (v * q)
+    → v ≡ t
+    → whole n +ᶠ g ≤ᶠ whole (t * q)
+    → x < n
+    → ⊥
+too-long n x t q v f g properF properG same uses shared enough less =
+    let one : n * g .den * f .den + g .num * f .den ≤ t * q * g .den * f .den = omega (arith, mul-le-mul-right (f .den) enough) in
+    let two : f .num * g .den + x * f .den * g .den ≡ v * q * f .den * g .den = omega (arith, ap (λ (k : ℕ). k * g .den) uses) in
+    let three : v * q * f .den * g .den ≡ t * q * f .den * g .den = ap (λ (k : ℕ). k * q * f .den * g .den) shared in
+    let le : n * (f .den * g .den) ≤ x * (f .den * g .den) = omega (arith, one, two, three, same) in
+    lt-irrefl x (lt-of-lt-of-le less (le-of-mul-le-mul-right {k = f .den * g .den} le (mul-pos properF properG)))
+
+-- where W holds the work, all requests are placed
+pub holds-places-all : (p : Plan) (w : Workload) (n : ℕ) (xs : List ℕ) (s : ℕ)
+    → SoundPlan p
+    → 1 ≤ w .computing
+    → n ≤ periods p
+    → Holds p w n
+    → AnsweredAt p (w .core) (w .requests) n xs s
+    → sumOf xs ≡ w .requests
+holds-places-all p w n xs s sound some inside holds a =
+    ⊎-elim
+    (λ e. e)
+    (λ less.
+    let sums = plan-whole p sound in
+    let concave = parts-concave (p .perPeriod) (w .core) (shares n (p .lengths)) (rows p) (a .parts) sums (a .ofPlan) in
+    let full = left-over-full (a .parts) (w .requests) xs concave (a .answered) less in
+    let uses = all-uses (p .perPeriod) (w .core) (shares n (p .lengths)) (rows p) (a .parts) xs sums (a .ofPlan) concave full in
+    let f = total (a .parts) xs in
+    let g = answered-greatest p (w .core) (w .requests) n xs s a in
+    let same = stall-value-same p (w .core) sound (w .requests) n f (holds .stall) g (holds .greatest) in
+    absurd
+    (too-long (work w) (sumOf xs) n (p .perPeriod) (sumOf (shares n (p .lengths))) f (holds .stall)
+    (parts-proper (a .parts) xs concave)
+    (stall-value-proper p (w .core) sound (w .requests) n (holds .stall) (holds .greatest))
+    same
+    uses
+    (shares-sum n (p .lengths) inside)
+    (holds .enough)
+    (omega (arith, some, less))))
+    (eq-or-lt-of-le (a .answered .greatest .placed .within))
+
+sort : (p : Plan) (w : Workload) (sound : SoundPlan p) (next : ℕ → ℕ) (right : (t : ℕ) → NextTerm p w t (next t)) (s : Sought)
+    → Right p w sound next right (firstTerm p w) s
+    → ((n : ℕ) × (k : ℕ) × IsSpan p w n × Rounds p w n k) ⊎ NoSpan p w
+sort p w sound next right (found n k) h = inl (n, k, h .0, h .1)
+sort p w sound next right nothing h = inr h
+
+-- a workload has a span with its rounds, or no span
+pub span-or-none : (p : Plan) (w : Workload)
+    → SoundPlan p
+    → SoundCore p (w .core)
+    → 1 ≤ w .computing
+    → ((n : ℕ) × (k : ℕ) × IsSpan p w n × Rounds p w n k) ⊎ NoSpan p w
+span-or-none p w sound core some =
+    let at = answered-exists p (w .core) sound core (w .requests) in
+    let next : ℕ → ℕ = λ t. roundUp (record { num = work w + at t .1; den = p .perPeriod }) in
+    let right : (t : ℕ) → NextTerm p w t (next t) = λ t. next-of-stall p w sound t (at t .1) (at t .0) (at t .2) in
+    sort p w sound next right
+    (sought next (w .horizon) (suc (w .horizon)) (firstTerm p w))
+    (search-right p w sound next right some)
