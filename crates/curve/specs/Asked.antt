@@ -2,7 +2,7 @@
 use mathlib.Core.Path.{_≡_, refl, sym, ap, _∙_}
 use mathlib.Core.Bool.{true, false}
 use mathlib.Core.List.{List}
-use Prim.Native.Nat.{ℕ, zero, suc, _-_, _≤_, _<_}
+use Prim.Native.Nat.{ℕ, _-_, _≤_, _<_}
 use native.Mathlib.Omega.{arith}
 use lib.ListN.{length, take, replicate, length-map}
 use lib.Seq.{take-at}
@@ -11,8 +11,9 @@ use borrow.Author.Tests.{le-leb, lt-leb, lt-ltb, le-ltb}
 use Rattle.meaning.specs.Plan.{Plan, budgetOf}
 use Rattle.meaning.specs.Curve.{Corner, raw, rates, count}
 use Rattle.meaning.specs.Refusals.{_before_, refusedIf, planRefusal, coreRefusal, rawRefusal, cornersRefusal, oneInterval}
-use Rattle.meaning.specs.Promises.{Judged, RawPromise, CornersPromise, written}
-use Rattle.laws.specs.Answers.{sound-one}
+use Rattle.meaning.specs.Promises.{RawPromise, CornersPromise, written}
+use Rattle.laws.specs.Judging.{before-assoc}
+use Rattle.laws.specs.Answers.{judged-refused, sound-one}
 use Rattle.units.specs.Refusals.{numberOf}
 use Rattle.units.specs.declared.Refusal.{Refusal}
 use Rattle.judge.specs.Judged.{CoreJudged, refused-before}
@@ -20,23 +21,6 @@ use Rattle.judge.specs.declared.Judgement.{Judgement}
 use Rattle.curve.specs.Figures.{HoldsEnvelope}
 use Rattle.curve.specs.Rows.{Interval, interval-of}
 use Rattle.curve.specs.declared.Block.{Block}
-
-before-assoc : (a b c : ℕ) → (a before b) before c ≡ a before b before c
-before-assoc zero b c = refl
-before-assoc (suc a) b c = refl
-
--- every refusal has a number of at least 1
-refusal-some : (f : Refusal) → 1 ≤ numberOf f
-refusal-some f = some (numberOf f) (refused-before f 1 refl)
-  where
-    some : (n : ℕ) → n before 1 ≡ n → 1 ≤ n
-    some zero e = omega arith
-    some (suc n) e = omega arith
-
--- a question that is judged with a refusal's number is refused with it
-refused-with : (refused : ℕ → Type 0) (answered : Type 0) (n x : ℕ) → 1 ≤ n → x ≡ n → refused n → Judged x refused answered
-refused-with refused answered zero x some e h = absurd (omega arith)
-refused-with refused answered (suc n) x some e h = rw e h
 
 -- one interval of one period and the core, judged: sound, for the functions below, or refused with this number
 abbrev pub OneJudged : ℕ → ℕ → List ℕ → ℕ → Judgement → Type 0
@@ -63,7 +47,7 @@ module _ (m perPeriod : ℕ) (budgets : List ℕ) (core r : ℕ) where
   raw-refused f e =
       let p : Plan = oneInterval m perPeriod budgets in
       let above : ℕ = refusedIf (ltb (budgetOf core budgets) r) 13 in
-      refused-with _ _ (numberOf f) (rawRefusal m perPeriod budgets core r) (refusal-some f)
+      judged-refused _ _ (numberOf f) (rawRefusal m perPeriod budgets core r) (refused-before f 1 refl)
       (sym (before-assoc (planRefusal p) (coreRefusal p core) above) ∙ refused-before f above e) refl
 
   judged-rate : cornersRefusal m perPeriod budgets core ≡ 0
@@ -95,7 +79,7 @@ module _ (m perPeriod : ℕ) (budgets : List ℕ) (core : ℕ) (place : List ℕ
       → cornersRefusal m perPeriod budgets core ≡ numberOf f
       → CornersPromise m perPeriod budgets core place (record { refused = numberOf f; count = 0 }) place
   corners-refused f e =
-      refused-with _ _ (numberOf f) (cornersRefusal m perPeriod budgets core) (refusal-some f) e (refl, refl)
+      judged-refused _ _ (numberOf f) (cornersRefusal m perPeriod budgets core) (refused-before f 1 refl) e (refl, refl)
 
   -- 11: the place is shorter than the count, and is kept
   pub corners-no-room : (b : Block)

@@ -10,7 +10,7 @@ use lib.Seq.{take-all}
 use lib.Dec.{leb}
 use Rattle.meaning.specs.Plan.{Plan, mostCores, mostPerPeriod, sumOf, rowsOf, budgetOf}
 use Rattle.meaning.specs.Curve.{Curve, EnvelopeOf, raw, rates, count}
-use Rattle.meaning.specs.Refusals.{planRefusal, coreRefusal, rawRefusal, cornersRefusal, oneInterval}
+use Rattle.meaning.specs.Refusals.{_before_, planRefusal, coreRefusal, rawRefusal, cornersRefusal, oneInterval}
 use Rattle.meaning.specs.Promises.{Judged, RawFigures, RawPromise, CornersFigures, cornersFigures, CornersPromise, written}
 use Rattle.laws.specs.Raw.{raw-rises}
 use Rattle.laws.specs.Unique.{envelope-unique}
@@ -45,6 +45,15 @@ sound-one m perPeriod budgets core e =
       first = sound .first;
       last = sound .last;
     }
+
+-- a question that is judged with a refusal's number is refused with it; a refusal is given before any later one
+pub judged-refused : (refused : ℕ → Type 0) (answered : Type 0) (n x : ℕ)
+    → n before 1 ≡ n
+    → x ≡ n
+    → refused n
+    → Judged x refused answered
+judged-refused refused answered zero x given e h = absurd (omega (arith, given))
+judged-refused refused answered (suc n) x given e h = rw e h
 
 -- two that were judged with one number were both refused with it, or both answered
 pub both-judged : (n : ℕ) (r s : ℕ → Type 0) (a b p : Type 0)

@@ -56,26 +56,26 @@ pub not-refused : {broken : Bool} (n : ℕ) → broken ≡ false → refusedIf b
 not-refused n e = rw e
 
 -- where not one of two holds, the first does not
-or-first : (a b : Bool) → (a || b) ≡ false → a ≡ false
+pub or-first : (a b : Bool) → (a || b) ≡ false → a ≡ false
 or-first true b e = e
 or-first false b e = refl
 
 -- where not one of two holds, the second does not
-or-second : (a b : Bool) → (a || b) ≡ false → b ≡ false
+pub or-second : (a b : Bool) → (a || b) ≡ false → b ≡ false
 or-second true b e = absurd (true≢false e)
 or-second false b e = e
 
 -- where neither holds, not one of them does
-neither : {a b : Bool} → a ≡ false → b ≡ false → (a || b) ≡ false
+pub neither : {a b : Bool} → a ≡ false → b ≡ false → (a || b) ≡ false
 neither first second = rw first second
 
 -- where both hold, the first does
-and-first : (a b : Bool) → (a && b) ≡ true → a ≡ true
+pub and-first : (a b : Bool) → (a && b) ≡ true → a ≡ true
 and-first true b e = refl
 and-first false b e = e
 
 -- where both hold, the second does
-and-second : (a b : Bool) → (a && b) ≡ true → b ≡ true
+pub and-second : (a b : Bool) → (a && b) ≡ true → b ≡ true
 and-second true b e = e
 and-second false b e = absurd (false≢true e)
 
@@ -322,7 +322,7 @@ sum-from l i h = rw (add-one, drop-cons l i 0 h)
 
 module _ (m : ℕ) (lengths budgets : List ℕ) (i : ℕ) (h : i < length lengths) where
   -- the rows from an interval on are its row and the rows after it
-  rows-from : drop i (rowsOf m lengths budgets) ≡ take m (drop (i * m) budgets) ∷ drop (i + 1) (rowsOf m lengths budgets)
+  pub rows-from : drop i (rowsOf m lengths budgets) ≡ take m (drop (i * m) budgets) ∷ drop (i + 1) (rowsOf m lengths budgets)
   rows-from =
       let more : i < length (rowsOf m lengths budgets) = rw (rows-count m lengths budgets) h in
       rw (add-one, drop-cons (rowsOf m lengths budgets) i [] more, row-at m lengths budgets i h)

@@ -28,3 +28,15 @@ pub mod Runs
 pub mod Claims
 pub mod Outliving
 pub mod Longer
+pub mod Decimals
+pub mod Records
+pub mod Masks
+pub mod Reading
+pub mod Terms
+pub mod SoundFiles
+pub mod PlanFiles
+pub mod Bytes
+pub mod Rows
+pub mod Fronts
+pub mod ReadWrites
+pub mod WrittenReads

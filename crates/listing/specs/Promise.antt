@@ -1,0 +1,65 @@
+-- What a line promises: its text from the front of the lent place with the rest kept, or no room with the place kept.
+use mathlib.Core.Path.{_≡_, refl, sym, ap, _∙_}
+use mathlib.Core.Bool.{Bool, true, false, _&&_}
+use mathlib.Core.List.{List, []}
+use Prim.Native.Nat.{ℕ, _≤_}
+use native.Mathlib.Omega.{arith}
+use lib.ListN.{length, drop, length-append, length-drop}
+use lib.Dec.{leb}
+use Rattle.meaning.specs.Plan.{Plan, mostIntervals}
+use Rattle.meaning.specs.Promises.{SpanFigures, written}
+use Rattle.meaning.specs.Listing.{planLine, spanLine}
+use Rattle.listing.specs.declared.Line.{Line}
+
+-- room for the longest line: 64 requests of up to 10 digits, each after a space, and fewer than 100 bytes besides
+abbrev pub room : ℕ
+room = 1_024
+
+-- a place of this length has room for any line that lists so many lengths or requests: at most one for each of 64 intervals
+abbrev pub roomFor : ℕ → ℕ → Bool
+roomFor numbers place = leb room place && leb numbers mostIntervals
+
+-- what is promised of a line with this text, by whether there is room
+abbrev pub LinePromise : List ℕ → Bool → List ℕ → Line → List ℕ → Type 0
+LinePromise text true before answer after = (answer ≡ Line.Length (length text)) × (after ≡ written text before)
+LinePromise text false before answer after = (answer ≡ Line.NoRoom) × (after ≡ before)
+
+-- two answers that meet the promise are the same, and so are the places
+pub line-same : (text : List ℕ) (fits : Bool) (before : List ℕ) {a b : Line} {after later : List ℕ}
+    → LinePromise text fits before a after
+    → LinePromise text fits before b later
+    → (a ≡ b) × (after ≡ later)
+line-same text true before p q = (p .0 ∙ sym (q .0), p .1 ∙ sym (q .1))
+line-same text false before p q = (p .0 ∙ sym (q .0), p .1 ∙ sym (q .1))
+
+-- the length that is answered is within the place, which keeps its own length
+pub line-within : (text : List ℕ) (fits : Bool) (before after : List ℕ) {n : ℕ}
+    → LinePromise text fits before (Line.Length n) after
+    → length after ≡ length before
+    → n ≤ length after
+line-within text true before after {n} p kept =
+    let same : n ≡ length text = cc (p .0) in
+    let whole = ap length (p .1) ∙ length-append text (drop (length text) before) in
+    omega (arith, whole, length-drop (length text) before)
+line-within text false before after {n} p kept = let never : _≡_ {A = ℕ} 0 1 = cc (p .0) in absurd (omega arith)
+
+-- the plan's line, which shows no budgets
+abbrev pub planText : ℕ → ℕ → List ℕ → List ℕ
+planText m perPeriod lengths =
+    planLine (record { cores = m; perPeriod = perPeriod; lengths = lengths; budgets = [] })
+
+-- it is the line of any plan with these cores, slots per period and lengths
+pub plan-text : (p : Plan) → planText (p .cores) (p .perPeriod) (p .lengths) ≡ planLine p
+unfolding planLine
+plan-text p = refl
+
+-- the line of a span with its stall and rounds
+abbrev pub spanText : ℕ → ℕ → ℕ → ℕ → List ℕ → List ℕ
+spanText number span stall rounds requests =
+    spanLine number (record { refused = 0; span = span; stall = stall; rounds = rounds }) requests
+
+-- it is the line of any answer with this span, stall and rounds
+pub span-text : (number : ℕ) (a : SpanFigures) (requests : List ℕ)
+    → spanText number (a .span) (a .stall) (a .rounds) requests ≡ spanLine number a requests
+unfolding spanLine
+span-text number a requests = refl

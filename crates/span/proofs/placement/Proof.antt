@@ -1,0 +1,89 @@
+use mathlib.Core.Path.{_≡_}
+use denote.Ref.{now}
+use lib.ListN.{length}
+use borrow.Author.Needs.{needs}
+use Rattle.meaning.specs.Plan.{Plan}
+use Rattle.meaning.specs.Refusals.{placementRefusal}
+use Rattle.laws.specs.Questions.{SoundPlacement, sound-placement}
+use Rattle.judge.specs.Judged.{planOf}
+use Rattle.span.specs.Ordered.{order-walkable, order-fits}
+use Rattle.span.specs.Answered.{placement-refused, placement-answered}
+use Rattle.span.proofs.placement.Statement.{statement}
+use Rattle.span.proofs.placement.Tie as tie
+
+abbrev planAt : tie.Start → Plan
+planAt c = planOf (c .args .cores) (c .args .each .0) (now (c .args .lengths)) (now (c .args .budgets))
+
+abbrev startOf : tie.After-judged-placement → tie.Start
+startOf c = c .before .before .before .before
+
+-- the question is not refused
+judged : (c : tie.After-enum-told)
+    → let start = startOf (c .before .before) in
+    placementRefusal (planAt start) (start .args .core) (start .args .requests .0) (start .args .periods .0) (length (now (start .args .place))) ≡ 0
+judged c =
+    let found = rw (c .enum-told .given .1) at (c .before .before .judged-placement .ensures) in
+    found .0
+
+sound : (c : tie.After-enum-told)
+    → let start = startOf (c .before .before) in
+    SoundPlacement (planAt start) (start .args .core) (start .args .requests .0) (start .args .periods .0) (length (now (start .args .place)))
+sound c = sound-placement _ _ _ _ _ (judged c)
+
+judged-placement-requires : tie.Need-judged-placement-requires
+judged-placement-requires c κs = search needs
+
+enum-known-found : tie.Need-enum-known-found
+enum-known-found c = search needs
+
+returns : tie.Need-returns
+returns c =
+    let found = c .before in
+    let start = startOf (found .before .before) in
+    placement-refused (planAt start) (start .args .core) (start .args .requests .0) (start .args .periods .0) (now (start .args .place))
+    (found .found .given .0 .0)
+    (rw (found .found .given .1) at (found .before .before .judged-placement .ensures))
+
+enum-told : tie.Need-enum-told
+enum-told c = search needs
+
+order-of-requires : tie.Need-order-of-requires
+order-of-requires c κs = (sound c .plan, sound c .budgets)
+
+answer-at-requires : tie.Need-answer-at-requires
+answer-at-requires c κs =
+    let call = c .before .before .before in
+    let start = startOf (call .before .before .before) in
+    let s = sound (call .before) in
+    let picks = call .order-of .result .picks in
+    let count = call .order-of .result .count in (
+      order-walkable (planAt start) (s .plan) picks count (start .args .core) (call .order-of .ensures),
+      s .enoughRoom,
+      order-fits (planAt start) (s .plan) picks count (start .args .core) (s .budgets) (call .order-of .ensures) (start .args .requests .0)
+          (start .args .periods .0),
+    )
+
+same-length : tie.Need-same-length
+same-length c = search needs
+
+returns-2 : tie.Need-returns-2
+returns-2 c =
+    let answer = c .before .before in
+    let call = answer .before .before .before .before in
+    let start = startOf (call .before .before .before) in
+    placement-answered (planAt start) (start .args .core) (start .args .requests .0) (start .args .periods .0) (now (start .args .place))
+    (call .order-of .result .picks) (call .order-of .result .count) (answer .answer-at .result .0) (answer .answer-at .last .1 .1 .1 .1 .1 .0)
+    (judged (call .before)) (call .order-of .ensures) (answer .answer-at .ensures)
+
+pub placement-spec : {M : Type 1} → statement M
+placement-spec =
+    tie.close
+    (tie.spec
+    judged-placement-requires
+    enum-known-found
+    returns
+    enum-told
+    order-of-requires
+    answer-at-requires
+    same-length
+    returns-2)

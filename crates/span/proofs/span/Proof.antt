@@ -1,0 +1,127 @@
+use mathlib.Core.Path.{_≡_}
+use denote.Ref.{now}
+use lib.ListN.{length}
+use borrow.Author.Needs.{needs}
+use Rattle.meaning.specs.Plan.{Plan, Workload}
+use Rattle.meaning.specs.Refusals.{spanRefusal}
+use Rattle.laws.specs.Questions.{SoundSpan, sound-span}
+use Rattle.judge.specs.Judged.{planOf}
+use Rattle.span.specs.Figures.{workloadOf}
+use Rattle.span.specs.Ordered.{order-walkable, order-fits}
+use Rattle.span.specs.Answered.{span-refused, span-terms, span-none, span-found}
+use Rattle.span.proofs.span.Statement.{statement}
+use Rattle.span.proofs.span.Tie as tie
+
+abbrev planAt : tie.Start → Plan
+planAt c = planOf (c .args .cores) (c .args .each .0) (now (c .args .lengths)) (now (c .args .budgets))
+
+abbrev workloadAt : tie.Start → Workload
+workloadAt c = workloadOf (c .args .core) (c .args .computing .0) (c .args .requests .0) (c .args .horizon .0)
+
+abbrev startOf : tie.After-judged-span → tie.Start
+startOf c = c .before .before .before .before
+
+-- the question is not refused before the search
+judged : (c : tie.After-enum-told)
+    → let start = startOf (c .before .before) in
+    spanRefusal (planAt start) (workloadAt start) (length (now (start .args .place))) ≡ 0
+judged c =
+    let found = rw (c .enum-told .given .1) at (c .before .before .judged-span .ensures) in
+    found .0
+
+sound : (c : tie.After-enum-told)
+    → let start = startOf (c .before .before) in
+    SoundSpan (planAt start) (workloadAt start) (length (now (start .args .place)))
+sound c = sound-span _ _ _ (judged c)
+
+judged-span-requires : tie.Need-judged-span-requires
+judged-span-requires c κs = search needs
+
+enum-known-found : tie.Need-enum-known-found
+enum-known-found c = search needs
+
+returns : tie.Need-returns
+returns c =
+    let found = c .before in
+    let start = startOf (found .before .before) in
+    span-refused (planAt start) (workloadAt start) (now (start .args .place)) (found .found .given .0 .0)
+    (rw (found .found .given .1) at (found .before .before .judged-span .ensures))
+
+enum-told : tie.Need-enum-told
+enum-told c = search needs
+
+order-of-requires : tie.Need-order-of-requires
+order-of-requires c κs = (sound c .plan, sound c .budgets)
+
+search-requires : tie.Need-search-requires
+search-requires c κs =
+    let call = c .before .before in
+    let start = startOf (call .before .before .before) in
+    let s = sound (call .before) in
+    let picks = call .order-of .result .picks in
+    let count = call .order-of .result .count in (
+      s .plan .someSlots,
+      s .plan .fewSlots,
+      order-walkable (planAt start) (s .plan) picks count (start .args .core) (call .order-of .ensures),
+      span-terms (planAt start) (workloadAt start) (now (start .args .place)) (judged (call .before)) picks count (call .order-of .ensures),
+    )
+
+enum-told-2 : tie.Need-enum-told-2
+enum-told-2 c = search needs
+
+enum-known-span : tie.Need-enum-known-span
+enum-known-span c = search needs
+
+answer-at-requires : tie.Need-answer-at-requires
+answer-at-requires c κs =
+    let found = c .before .before .before .before in
+    let call = found .before .before .before .before .before in
+    let start = startOf (call .before .before .before) in
+    let s = sound (call .before) in
+    let picks = call .order-of .result .picks in
+    let count = call .order-of .result .count in (
+      order-walkable (planAt start) (s .plan) picks count (start .args .core) (call .order-of .ensures),
+      s .enoughRoom,
+      order-fits (planAt start) (s .plan) picks count (start .args .core) (s .budgets) (call .order-of .ensures) (start .args .requests .0)
+          (found .span .given .0 .0 .0),
+    )
+
+returns-2 : tie.Need-returns-2
+returns-2 c =
+    let ended = c .before .before in
+    let call = ended .before .before .before in
+    let start = startOf (call .before .before .before) in
+    span-none (planAt start) (workloadAt start) (now (start .args .place)) (judged (call .before)) (call .order-of .result .picks)
+    (call .order-of .result .count) (call .order-of .ensures) (rw (c .enum-told2 .given .1) at (ended .search .ensures))
+
+same-length : tie.Need-same-length
+same-length c = search needs
+
+returns-3 : tie.Need-returns-3
+returns-3 c =
+    let answer = c .before .before in
+    let found = answer .before .before .before .before .before in
+    let ended = found .before .before in
+    let call = ended .before .before .before in
+    let start = startOf (call .before .before .before) in
+    span-found (planAt start) (workloadAt start) (now (start .args .place)) (judged (call .before)) (call .order-of .result .picks)
+    (call .order-of .result .count) (call .order-of .ensures) (found .span .given .0 .0) (found .span .given .0 .1 .0)
+    (answer .answer-at .result .0) (answer .answer-at .last .1 .1 .1 .1 .1 .0) (rw (found .span .given .1) at (ended .search .ensures))
+    (answer .answer-at .ensures)
+
+pub span-spec : {M : Type 1} → statement M
+span-spec =
+    tie.close
+    (tie.spec
+    judged-span-requires
+    enum-known-found
+    returns
+    enum-told
+    order-of-requires
+    search-requires
+    enum-told-2
+    enum-known-span
+    answer-at-requires
+    returns-2
+    same-length
+    returns-3)

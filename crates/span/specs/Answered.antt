@@ -1,0 +1,97 @@
+-- What the two questions of a plan promise, from how they are judged and from what the order of the segments gives.
+use mathlib.Core.Path.{_≡_, refl, sym, subst}
+use mathlib.Core.Logic.{inl, inr}
+use mathlib.Core.List.{List, []}
+use Prim.Native.Nat.{ℕ}
+use lib.ListN.{length}
+use Rattle.meaning.specs.Plan.{Plan, Workload}
+use Rattle.meaning.specs.Span.{firstTerm, NextTerm, Rounds}
+use Rattle.meaning.specs.Refusals.{placementRefusal, spanRefusal}
+use Rattle.meaning.specs.Promises.{PlacementPromise, noSpanFigures, SpanGiven, SpanPromise, written}
+use Rattle.laws.specs.Questions.{SoundSpan, sound-placement, sound-span}
+use Rattle.laws.specs.Answers.{judged-refused}
+use Rattle.laws.specs.Terms.{first-holding, RisingTerms, terms-rise, reached-span, reached-none}
+use Rattle.units.specs.Refusals.{numberOf}
+use Rattle.units.specs.declared.Periods.{Periods}
+use Rattle.units.specs.declared.Refusal.{Refusal}
+use Rattle.judge.specs.Judged.{refused-before}
+use Rattle.stall.specs.Packed.{between}
+use Rattle.span.specs.Ordered.{placedAt, Gives, termAfter, OrderOf, order-gives, order-terms}
+use Rattle.span.specs.Searched.{EndsWith, Rising, Searched}
+use Rattle.span.specs.declared.Ending.{Ending}
+
+module _ (p : Plan) (core requests n : ℕ) (place : List ℕ) where
+  -- a placement question is refused with the number that it is judged with, and the place is kept
+  pub placement-refused : (f : Refusal)
+      → placementRefusal p core requests n (length place) ≡ numberOf f
+      → PlacementPromise p core requests n place (record { refused = numberOf f; stall = 0 }) place
+  placement-refused f e =
+      judged-refused _ _ (numberOf f) (placementRefusal p core requests n (length place)) (refused-before f 1 refl) e (refl, refl)
+
+  -- the answered placement is written, and its stall is answered
+  pub placement-answered : (picks : List ℕ) (count stall : ℕ) (after : List ℕ)
+      → placementRefusal p core requests n (length place) ≡ 0
+      → OrderOf p core picks count
+      → Gives (p .lengths) (between 0 count picks) requests n place stall after
+      → PlacementPromise p core requests n place (record { refused = 0; stall = stall }) after
+  placement-answered picks count stall after e o gives =
+      let sound = sound-placement p core requests n (length place) e in
+      let (answered, out) = order-gives p (sound .plan) picks count core (sound .budgets) o requests n place stall after gives in
+      rw e (placedAt (p .lengths) (between 0 count picks) requests n, stall, answered, refl, out)
+
+module _ (p : Plan) (w : Workload) (place : List ℕ) where
+  -- a span question is refused with the number that it is judged with, and the place is kept
+  pub span-refused : (f : Refusal)
+      → spanRefusal p w (length place) ≡ numberOf f
+      → SpanPromise p w place (noSpanFigures (numberOf f)) place
+  span-refused f e =
+      ([], judged-refused _ _ (numberOf f) (spanRefusal p w (length place)) (refused-before f 1 refl) e (refl, refl), refl)
+
+  module _ (e : spanRefusal p w (length place) ≡ 0) (picks : List ℕ) (count : ℕ) (o : OrderOf p (w .core) picks count) where
+    sound : SoundSpan p w (length place)
+    sound = sound-span p w (length place) e
+
+    next : ℕ → ℕ
+    next = termAfter (p .perPeriod) (p .lengths) (between 0 count picks) w
+
+    terms : (t : ℕ) → NextTerm p w t (next t)
+    unfolding next
+    terms = order-terms p (sound .plan) picks count w (sound .budgets) o
+
+    -- the terms rise
+    pub span-terms : Rising (p .perPeriod) (p .lengths) (between 0 count picks) w
+    unfolding next
+    span-terms = subst (RisingTerms next) (first-holding p w) (terms-rise p w (sound .plan) next terms)
+
+    from-first : (r : Ending)
+        → Searched (p .perPeriod) (p .lengths) (between 0 count picks) w r
+        → EndsWith next (firstTerm p w) (w .horizon) r
+    unfolding next
+    from-first r = subst (λ (first : ℕ). EndsWith next first (w .horizon) r) (sym (first-holding p w))
+
+    -- 12: the terms pass the horizon
+    pub span-none : Searched (p .perPeriod) (p .lengths) (between 0 count picks) w Ending.NoSpan
+        → SpanPromise p w place (noSpanFigures 12) place
+    span-none ended =
+        let (k, t, reached, past) = from-first Ending.NoSpan ended in
+        ([], rw e (inr (reached-none p w (sound .plan) next terms k t reached past, refl, refl)), refl)
+
+    -- the span is found: the answered placement there is written
+    pub span-found : (span : Periods) (rounds stall : ℕ) (after : List ℕ)
+        → Searched (p .perPeriod) (p .lengths) (between 0 count picks) w (Ending.Span span rounds)
+        → Gives (p .lengths) (between 0 count picks) (w .requests) (span .0) place stall after
+        → SpanPromise p w place (record { refused = 0; span = span .0; stall = stall; rounds = rounds }) after
+    span-found span rounds stall after ended gives =
+        let (k, reached, inside, same, counted) = from-first (Ending.Span span rounds) ended in
+        let found = reached-span p w (sound .plan) next terms k (span .0) (sound .someComputing) reached inside same in
+        let (answered, out) =
+        order-gives p (sound .plan) picks count (w .core) (sound .budgets) o (w .requests) (span .0) place stall after gives in
+        let xs = placedAt (p .lengths) (between 0 count picks) (w .requests) (span .0) in
+        let here : SpanGiven p w (record { refused = 0; span = span .0; stall = stall; rounds = rounds }) xs =
+        record {
+          answered = refl;
+          isSpan = found .0;
+          placement = answered;
+          rounds = subst (Rounds p w (span .0)) (sym counted) (found .1);
+        } in
+        (xs, rw e (inl here), out)

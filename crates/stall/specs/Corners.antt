@@ -1,0 +1,134 @@
+-- Laws on the corners of a block: the curve that they give back, and its segments one after another.
+use mathlib.Core.Path.{_≡_, refl, sym, ap, ap₂, _∙_, subst}
+use mathlib.Core.List.{List, _∷_, _++_, map, append-nil}
+use Prim.Native.Nat.{ℕ, suc, _+_, _-_, _≤_, _<_}
+use native.Mathlib.Nat.{le-refl, lt-of-lt-of-le, le-of-eq, le-of-lt}
+use native.Mathlib.Numerals.{add-one, one-add}
+use native.Mathlib.Omega.{arith}
+use lib.ListN.{length, getD, set, length-map, List·getD-append, List·getD-map}
+use Rattle.meaning.specs.Curve.{Corner, Curve, count, rates, stalls, blockOf}
+use Rattle.laws.specs.Indexed.{listFrom}
+use Rattle.laws.specs.Filling.{Pick}
+use Rattle.laws.specs.Merging.{picksFrom}
+use Rattle.stall.specs.Blocks.{cornerAt, curveOf, Segments}
+use Rattle.stall.specs.Packed.{pickOf, between}
+use Rattle.stall.specs.Groups.{Kept, Written}
+use Rattle.stall.specs.Places.{list-of, between-none, written-more, kept-stored}
+
+-- a number of a corner, read from its block
+block-at : (f : Corner → ℕ) (d a : Corner) (cs : List Corner) (more : List ℕ) (k : ℕ)
+    → k < length cs
+    → getD ((f a ∷ map f cs) ++ more) (1 + k) (f d) ≡ f (getD cs k d)
+block-at f d a cs more k inside =
+    ap (λ (m : ℕ). getD ((f a ∷ map f cs) ++ more) m (f d)) (one-add k)
+    ∙ List·getD-append (map f cs) more (f d) k (lt-of-lt-of-le inside (le-of-eq (sym (length-map cs f))))
+    ∙ List·getD-map f cs k d
+
+-- a curve is what its blocks of nine hold
+pub curve-block : (c : Curve) → curveOf (count c) (blockOf (rates c)) (blockOf (stalls c)) ≡ c
+curve-block c =
+    let a = c .first in
+    let cs = c .rest in
+    let d : Corner = record { rate = 0; stall = 0 } in
+    let rest =
+    list-of d cs 1 (cornerAt (blockOf (rates c)) (blockOf (stalls c)))
+    (λ k inside.
+    ap₂ {A = ℕ} {B = ℕ} {C = Corner} (λ r s. record { rate = r; stall = s })
+    (block-at (λ (b : Corner). b .rate) d a cs _ k inside)
+    (block-at (λ (b : Corner). b .stall) d a cs _ k inside)) in
+    let length : suc (length cs) - 1 ≡ length cs = omega arith in
+    ap {B = Curve} (λ (l : List Corner). record { first = a; rest = l })
+    (ap (λ (n : ℕ). listFrom 1 n (cornerAt (blockOf (rates c)) (blockOf (stalls c)))) length ∙ rest)
+
+-- where the writing of a curve's segments stands: so many are written, and the corners from there on are left
+pub record Along (i corners : ℕ) (corner : ℕ → Corner) (before after : List ℕ) (start at k : ℕ) : Type 0 where
+  pub short : k ≤ 8
+  pub place : at ≡ start + k
+  pub kept : Kept start before after
+  pub left : Segments (record { first = corner k; rest = listFrom (suc k) (corners - suc k) corner })
+  pub segments :
+      picksFrom i (corner 0) (listFrom 1 (corners - 1) corner)
+      ≡ between start at after ++ picksFrom i (corner k) (listFrom (suc k) (corners - suc k) corner)
+
+-- none is written yet
+pub along-none : {i corners : ℕ} {corner : ℕ → Corner} {before : List ℕ} {start : ℕ}
+    → Segments (record { first = corner 0; rest = listFrom 1 (corners - 1) corner })
+    → Along i corners corner before before start start 0
+along-none {before = before} {start = start} sound =
+    record {
+      short = omega arith;
+      place = omega arith;
+      kept = record { long = refl; same = λ k h. refl };
+      left = sound;
+      segments = rw (between-none start start before (le-refl start));
+    }
+
+-- the corner after the next, where there is one
+next-corner : (corners k : ℕ) (corner : ℕ → Corner)
+    → k + 1 < corners
+    → listFrom (suc k) (corners - suc k) corner ≡ corner (k + 1) ∷ listFrom (suc (k + 1)) (corners - suc (k + 1)) corner
+unfolding listFrom
+next-corner corners k corner more =
+    let count : corners - suc k ≡ suc (corners - suc (suc k)) = omega (arith, more) in
+    rw (add-one k) (ap (λ (n : ℕ). listFrom (suc k) n corner) count)
+
+module _ {i corners : ℕ} {corner : ℕ → Corner} {before after : List ℕ} {start at k : ℕ}
+    (here : Along i corners corner before after start at k) where
+  -- what is left begins with the next corner
+  left-next : k + 1 < corners
+      → Segments (record { first = corner k; rest = corner (k + 1) ∷ listFrom (suc (k + 1)) (corners - suc (k + 1)) corner })
+  left-next more =
+      subst
+      (λ (cs : List Corner). Segments (record { first = corner k; rest = cs }))
+      (next-corner corners k corner more)
+      (here .left)
+
+  -- the next rate and stall are no less
+  pub along-rises : k + 1 < corners → (corner k .rate ≤ corner (k + 1) .rate) × (corner k .stall ≤ corner (k + 1) .stall)
+  along-rises more = (le-of-lt (left-next more .rising .0), left-next more .climbing .0)
+
+  -- one more is written
+  pub along-more : (v : ℕ)
+      → k + 1 < corners
+      → corners ≤ 9
+      → start ≤ 504
+      → length before ≡ 512
+      → pickOf v
+      ≡ record {
+        interval = i;
+        run = corner (k + 1) .rate - corner k .rate;
+        rise = corner (k + 1) .stall - corner k .stall;
+      }
+      → Along i corners corner before (set after at v) start (at + 1) (k + 1)
+  unfolding picksFrom
+  along-more v more few room long packs =
+      let later = listFrom (suc (k + 1)) (corners - suc (k + 1)) corner in
+      let past : start ≤ at = omega (arith, here .place) in
+      let inside : at < length after = omega (arith, here .place, here .short, more, few, room, long, here .kept .long) in
+      record {
+        short = omega (arith, more, few);
+        place = omega (arith, here .place);
+        kept = kept-stored start at v before after past (here .kept);
+        left = record { rising = left-next more .rising .1; climbing = left-next more .climbing .1 };
+        segments =
+            written-more start at v after _ _ _ past inside (here .segments)
+            (ap (picksFrom i (corner k)) (next-corner corners k corner more)
+            ∙ ap (λ (s : Pick). s ∷ picksFrom i (corner (k + 1)) later) (sym packs));
+      }
+
+  -- all are written
+  pub along-all : corners ≤ k + 1
+      → Written i (record { first = corner 0; rest = listFrom 1 (corners - 1) corner }) before after start at
+  unfolding listFrom picksFrom
+  along-all done =
+      let none : corners - suc k ≡ 0 = omega (arith, done) in
+      record {
+        kept = here .kept;
+        rises = omega (arith, here .place);
+        fits = omega (arith, here .place, here .short);
+        segments =
+            sym
+            (here .segments
+            ∙ ap (λ (n : ℕ). between start at after ++ picksFrom i (corner k) (listFrom (suc k) n corner)) none
+            ∙ append-nil (between start at after));
+      }

@@ -1,0 +1,40 @@
+-- A segment packed into one number, and the segments in the places of an array.
+use mathlib.Core.List.{List, [], _∷_}
+use Prim.Native.Nat.{ℕ, _-_, _/_, _%_, _≤_, _<_}
+use lib.ListN.{getD}
+use Rattle.meaning.specs.Curve.{Curve}
+use Rattle.laws.specs.Indexed.{listFrom}
+use Rattle.laws.specs.Filling.{Pick, Order}
+use Rattle.laws.specs.Merging.{within}
+
+-- the segment that a number packs: 2^32 times its rise, 2^16 times its run, its interval
+abbrev pub pickOf : ℕ → Pick
+pickOf v = record { interval = v % 64; run = v / 65_536 % 65_536; rise = v / 4_294_967_296 }
+
+-- the segments in the places from one up to another
+abbrev pub between : ℕ → ℕ → List ℕ → List Pick
+between low high picks = listFrom low (high - low) (λ k. pickOf (getD picks k 0))
+
+-- the share of an interval, counted from 0
+abbrev pub shareAt : List ℕ → ℕ → ℕ
+shareAt shares i = getD shares i 0
+
+-- P holds of every segment
+abbrev pub Every : (Pick → Type 0) → List Pick → Type 0
+Every P [] = Unit {0}
+Every P (s ∷ o) = P s × Every P o
+
+-- every run is at least 1
+abbrev pub Runs : List Pick → Type 0
+Runs = Every (λ s. 1 ≤ s .run)
+
+-- every interval is one of the first n
+abbrev pub Inside : ℕ → List Pick → Type 0
+Inside n = Every (λ s. s .interval < n)
+
+-- the first so many places hold the order of the segments of n curves
+pub record Orders (n : ℕ) (curve : ℕ → Curve) (picks : List ℕ) (count : ℕ) : Type 0 where
+  pub fits : count ≤ 512
+  pub order : Order (within 0 n curve) (between 0 count picks)
+  pub runs : Runs (between 0 count picks)
+  pub inside : Inside n (between 0 count picks)

@@ -1,0 +1,86 @@
+//! Makes questions and plan files from a seed, for `tests/compare` and
+//! `bench/run`. The same seed gives the same output on every machine.
+
+mod damage;
+mod files;
+mod fit;
+mod measured;
+mod plans;
+mod questions;
+mod random;
+mod refusals;
+mod workloads;
+
+use std::io::{self, BufWriter, Write};
+use std::path::Path;
+use std::process::ExitCode;
+
+const USAGE: &str = "usage: generate questions | small | runs SEED COUNT [FIRST]
+       generate files SEED COUNT DIR
+       generate measured DIR";
+
+/// Question `number` under a seed.
+type Stream = fn(u64, u64) -> Vec<u8>;
+
+fn main() -> ExitCode {
+    let words: Vec<String> = std::env::args().skip(1).collect();
+    let words: Vec<&str> = words.iter().map(String::as_str).collect();
+    match run(&words) {
+        Some(Ok(())) => ExitCode::SUCCESS,
+        Some(Err(error)) => {
+            eprintln!("generate: {error}");
+            ExitCode::FAILURE
+        }
+        None => {
+            eprintln!("{USAGE}");
+            ExitCode::from(2)
+        }
+    }
+}
+
+/// `None` stands for words that are not in the usage.
+fn run(words: &[&str]) -> Option<io::Result<()>> {
+    match words {
+        ["files", seed, count, folder] => {
+            let (seed, count) = (seed.parse().ok()?, count.parse().ok()?);
+            Some(write_files(seed, count, Path::new(folder)))
+        }
+        ["measured", folder] => Some(measured::write_files(Path::new(folder))),
+        [mode, seed, count, first @ ..] => {
+            let stream: Stream = match *mode {
+                "questions" => questions::mixed,
+                "small" => questions::small,
+                "runs" => questions::for_runs,
+                _ => return None,
+            };
+            let first = match first {
+                [] => 1,
+                [first] => first.parse().ok()?,
+                _ => return None,
+            };
+            let (seed, count) = (seed.parse().ok()?, count.parse().ok()?);
+            Some(write_stream(stream, seed, first, count))
+        }
+        _ => None,
+    }
+}
+
+/// Questions `first` to `first + count - 1`; each depends on the seed and its
+/// own number alone.
+fn write_stream(stream: Stream, seed: u64, first: u64, count: u64) -> io::Result<()> {
+    let mut output = BufWriter::new(io::stdout().lock());
+    for number in (first..).take(count as usize) {
+        output.write_all(&stream(seed, number))?;
+    }
+    output.flush()
+}
+
+/// Files `1.plan`, `2.plan` and so on.
+fn write_files(seed: u64, count: u64, folder: &Path) -> io::Result<()> {
+    std::fs::create_dir_all(folder)?;
+    for number in 1..=count {
+        let bytes = files::numbered(seed, number);
+        std::fs::write(folder.join(format!("{number}.plan")), bytes)?;
+    }
+    Ok(())
+}

@@ -1,0 +1,346 @@
+//! The stream of questions: the records that `second answer` reads.
+
+use crate::files;
+use crate::fit::Curves;
+use crate::plans::{self, CorePlan, Limits, Plan, MOST_OF_A_WORKLOAD};
+use crate::random::Random;
+use crate::refusals::{some_of, spoil_plan};
+use crate::workloads::{self, Workload};
+
+const RAW: u8 = 1;
+const CORNERS: u8 = 2;
+const PLACEMENT: u8 = 3;
+const SPAN: u8 = 4;
+const READ: u8 = 5;
+const WRITE: u8 = 6;
+
+/// One in so many questions is a search of very many rounds.
+const MANY_ROUNDS_ONE_IN: u64 = 400;
+
+/// Plans for the plain search have at most so many placements.
+const MOST_PLACEMENTS: u64 = 20_000;
+
+/// A program that answers may end at a longer body.
+const MOST_BODY: usize = 16_384;
+
+/// One of the first four questions, with every value any of them takes.
+struct Asked {
+    kind: u8,
+    plan: Plan,
+    core: u8,
+    rate: u32,
+    computing: u32,
+    requests: u32,
+    /// The horizon, or the given span.
+    periods: u16,
+    room: u8,
+}
+
+impl Asked {
+    fn new(kind: u8, seen: CorePlan, workload: Workload) -> Self {
+        Asked {
+            kind,
+            core: seen.core,
+            plan: seen.plan,
+            rate: 0,
+            computing: workload.computing,
+            requests: workload.requests,
+            periods: workload.horizon,
+            room: 0,
+        }
+    }
+
+    fn record(&self) -> Vec<u8> {
+        let plan = &self.plan;
+        let mut body = vec![plan.cores, self.core];
+        body.extend(plan.slots_per_period.to_le_bytes());
+        match self.kind {
+            RAW => body.extend(self.rate.to_le_bytes()),
+            CORNERS => body.push(self.room),
+            _ => {
+                if self.kind == SPAN {
+                    body.extend(self.computing.to_le_bytes());
+                }
+                body.extend(self.requests.to_le_bytes());
+                body.extend(self.periods.to_le_bytes());
+                body.extend([self.room, plan.lengths.len() as u8]);
+                body.extend(in_two_bytes(&plan.lengths));
+            }
+        }
+        body.extend(in_two_bytes(&plan.budgets));
+        record(self.kind, &body)
+    }
+
+    /// The refusals that this kind of question can give, but 12.
+    fn refusals(&self) -> &'static [u8] {
+        match self.kind {
+            RAW => &[1, 2, 3, 5, 6, 7, 13],
+            CORNERS => &[1, 2, 3, 5, 6, 7, 11],
+            PLACEMENT => &[1, 2, 3, 4, 5, 6, 7, 9, 10, 11],
+            _ => &[1, 2, 3, 4, 5, 6, 7, 8, 9, 10, 11],
+        }
+    }
+
+    /// The core's budget in the first interval, 0 if there is none.
+    fn own_budget(&self) -> u32 {
+        let own = usize::from(self.core).wrapping_sub(1);
+        self.plan
+            .budgets
+            .get(own)
+            .map_or(0, |&budget| u32::from(budget))
+    }
+
+    fn spoil(&mut self, random: &mut Random, refusal: u8) {
+        let past_limit = MOST_OF_A_WORKLOAD as u32 + 1;
+        let total: u64 = self
+            .plan
+            .lengths
+            .iter()
+            .map(|&length| u64::from(length))
+            .sum();
+        let past_total = (total + 1).min(65_535) as u16;
+        match refusal {
+            6 => self.core = random.pick(&[0, self.plan.cores.wrapping_add(1), 9, 255]),
+            8 => self.computing = random.pick(&[0, past_limit, u32::MAX]),
+            9 => self.requests = random.pick(&[past_limit, past_limit, u32::MAX]),
+            10 => self.periods = random.pick(&[0, past_total, past_total, 65_535]),
+            11 => self.room = random.pick(&[0, self.room.saturating_sub(1)]),
+            13 => {
+                let budget = self.own_budget();
+                self.rate = random.pick(&[budget + 1, budget + 1, budget + 65_536, u32::MAX]);
+            }
+            _ => spoil_plan(random, &mut self.plan, self.core, refusal),
+        }
+    }
+}
+
+fn in_two_bytes(numbers: &[u16]) -> Vec<u8> {
+    numbers
+        .iter()
+        .flat_map(|number| number.to_le_bytes())
+        .collect()
+}
+
+fn in_four_bytes(numbers: impl Iterator<Item = u32>) -> Vec<u8> {
+    numbers.flat_map(u32::to_le_bytes).collect()
+}
+
+fn record(kind: u8, body: &[u8]) -> Vec<u8> {
+    assert!(body.len() <= MOST_BODY, "a body that is too long");
+    let mut record = vec![kind];
+    record.extend((body.len() as u16).to_le_bytes());
+    record.extend(body);
+    record
+}
+
+/// Question `number` of the mixed stream of a seed.
+pub fn mixed(seed: u64, number: u64) -> Vec<u8> {
+    let random = &mut Random::new(seed, number);
+    if random.one_in(MANY_ROUNDS_ONE_IN) {
+        return many_rounds(random).record();
+    }
+    match random.below(14) {
+        0 | 1 => asked(random, RAW).record(),
+        2 | 3 => asked(random, CORNERS).record(),
+        4 | 5 => asked(random, PLACEMENT).record(),
+        6..=9 => asked(random, SPAN).record(),
+        10 | 11 => reading(random),
+        _ => writing(random),
+    }
+}
+
+/// Question `number` of the stream for the plain search: placements and spans
+/// on plans with few placements.
+pub fn small(seed: u64, number: u64) -> Vec<u8> {
+    let random = &mut Random::new(seed, number);
+    let (seen, workload) = searchable(random);
+    let room = seen.plan.lengths.len() as u8;
+    let span = workloads::some_span(random, &seen);
+    let kind = random.pick(&[PLACEMENT, SPAN]);
+    let mut asked = Asked::new(kind, seen, workload);
+    asked.room = room + random.pick(&[0, 0, 1]);
+    if kind == PLACEMENT {
+        asked.periods = span as u16;
+    }
+    asked.record()
+}
+
+/// A plan and a workload with so few placements that all can be looked at,
+/// and often with no fewer than some hundreds.
+fn searchable(random: &mut Random) -> (CorePlan, Workload) {
+    let least = random.pick(&[1, 20, 200, 1_000]);
+    for _ in 0..200 {
+        let seen = plans::sound(random, &plans::SMALL);
+        let workload = workloads::aimed(random, &seen);
+        let placements = workloads::placements(&seen, workload.requests);
+        if (least..=MOST_PLACEMENTS).contains(&placements) {
+            return (seen, workload);
+        }
+    }
+    let seen = plans::sound(random, &plans::SMALL);
+    let mut workload = workloads::aimed(random, &seen);
+    workload.requests = 0;
+    (seen, workload)
+}
+
+/// Question `number` of the stream for lawful runs: spans on small and middle
+/// plans, most of them with no slot to spare.
+pub fn for_runs(seed: u64, number: u64) -> Vec<u8> {
+    let random = &mut Random::new(seed, number);
+    let limits = random.pick(&[&plans::SMALL, &plans::MIDDLE, &plans::MIDDLE]);
+    let seen = plans::sound(random, limits);
+    let mut workload = workloads::just_fitting(random, &seen);
+    if random.one_in(3) {
+        workload = workloads::aimed(random, &seen);
+    }
+    workload.horizon = seen.total_periods() as u16;
+    let room = seen.plan.lengths.len() as u8;
+    let mut asked = Asked::new(SPAN, seen, workload);
+    asked.room = room;
+    asked.record()
+}
+
+fn many_rounds(random: &mut Random) -> Asked {
+    let seen = plans::many_rounds(random);
+    let workload = workloads::of_many_rounds(random, &seen);
+    let room = seen.plan.lengths.len() as u8;
+    let mut asked = Asked::new(SPAN, seen, workload);
+    asked.room = room;
+    asked
+}
+
+/// A question of one of the first four kinds; a third of them with faults.
+fn asked(random: &mut Random, kind: u8) -> Asked {
+    let limits: &Limits = match kind {
+        RAW | CORNERS => &plans::ONE_INTERVAL,
+        _ => random.pick(&[&plans::WHOLE, &plans::WHOLE, &plans::MIDDLE]),
+    };
+    let seen = plans::sound(random, limits);
+    let workload = workloads::aimed(random, &seen);
+    let span = workloads::some_span(random, &seen);
+    let requests = workloads::some_requests(random, &seen, span);
+    let rate = some_rate(random, &seen);
+    let places = match kind {
+        CORNERS => Curves::new(&seen).0[0].len() as u8,
+        _ => seen.plan.lengths.len() as u8,
+    };
+    let mut asked = Asked::new(kind, seen, workload);
+    asked.rate = rate as u32;
+    asked.room = places + random.pick(&[0, 0, 1, 5]);
+    if kind == PLACEMENT {
+        asked.periods = span as u16;
+        asked.requests = requests as u32;
+    }
+    if random.one_in(3) {
+        asked.room = places;
+        for refusal in some_of(random, asked.refusals()) {
+            asked.spoil(random, refusal);
+        }
+    }
+    asked
+}
+
+/// A rate of 0 to the budget, often at the other cores' budgets or the ends.
+fn some_rate(random: &mut Random, seen: &CorePlan) -> u64 {
+    let budget = seen.own_budget(0);
+    let other = u64::from(random.pick(seen.interval_budgets(0)));
+    let rate = match random.below(7) {
+        0 => 0,
+        1 => 1,
+        2 => budget - 1,
+        3 => budget,
+        4 => other,
+        5 => other + 1,
+        _ => random.between(0, budget),
+    };
+    rate.min(budget)
+}
+
+/// The question "read a plan file": six lent places, then the file.
+fn reading(random: &mut Random) -> Vec<u8> {
+    let (bytes, rooms) = files::for_reading(random);
+    let mut body = in_two_bytes(&rooms);
+    body.extend(bytes);
+    record(READ, &body)
+}
+
+/// The four lists of workload values, which may differ in length.
+struct Lists {
+    cores: Vec<u8>,
+    computing: Vec<u32>,
+    requests: Vec<u32>,
+    horizons: Vec<u16>,
+}
+
+impl Lists {
+    fn new(listed: &[Workload]) -> Self {
+        Lists {
+            cores: listed.iter().map(|workload| workload.core).collect(),
+            computing: listed.iter().map(|workload| workload.computing).collect(),
+            requests: listed.iter().map(|workload| workload.requests).collect(),
+            horizons: listed.iter().map(|workload| workload.horizon).collect(),
+        }
+    }
+
+    fn resize(&mut self, workloads: usize) {
+        self.cores.resize(workloads, 1);
+        self.computing.resize(workloads, 2);
+        self.requests.resize(workloads, 3);
+        self.horizons.resize(workloads, 4);
+    }
+
+    /// Makes one of the lists longer or shorter than the others, or all of
+    /// them too long.
+    fn spoil(&mut self, random: &mut Random) {
+        match random.below(7) {
+            0 => self.cores.push(1),
+            1 => drop(self.cores.pop()),
+            2 => self.computing.push(7),
+            3 => drop(self.requests.pop()),
+            4 => self.horizons.push(9),
+            5 => self.horizons.clear(),
+            _ => self.resize(random.pick(&[257, 300])),
+        }
+    }
+}
+
+/// The question "write a plan file"; a third of them with faults.
+fn writing(random: &mut Random) -> Vec<u8> {
+    let (seen, listed) = files::sound_contents(random);
+    let mut room = files::bytes(&seen.plan, &listed).len() as u64;
+    room += random.pick(&[0, 0, 1, 20]);
+    let mut lists = Lists::new(&listed);
+    let CorePlan { mut plan, core } = seen;
+    if random.one_in(3) {
+        for refusal in some_of(random, &[1, 2, 3, 4, 5, 25, 11]) {
+            match refusal {
+                11 => room = random.pick(&[0, room.max(1) - 1, room / 2]),
+                25 => lists.spoil(random),
+                _ => spoil_plan(random, &mut plan, core, refusal),
+            }
+        }
+    }
+    write_record(&plan, &lists, room as u16)
+}
+
+fn write_record(plan: &Plan, lists: &Lists, room: u16) -> Vec<u8> {
+    let mut body = vec![plan.cores];
+    body.extend(plan.slots_per_period.to_le_bytes());
+    body.extend(room.to_le_bytes());
+    body.push(plan.lengths.len() as u8);
+    let counts = [
+        plan.budgets.len(),
+        lists.cores.len(),
+        lists.computing.len(),
+        lists.requests.len(),
+        lists.horizons.len(),
+    ];
+    body.extend(in_two_bytes(&counts.map(|count| count as u16)));
+    body.extend(in_two_bytes(&plan.lengths));
+    body.extend(in_two_bytes(&plan.budgets));
+    body.extend(&lists.cores);
+    body.extend(in_four_bytes(lists.computing.iter().copied()));
+    body.extend(in_four_bytes(lists.requests.iter().copied()));
+    body.extend(in_two_bytes(&lists.horizons));
+    record(WRITE, &body)
+}

@@ -1,0 +1,199 @@
+//! Makes lawful runs for answered span questions and finds whether one
+//! outlasts its span: `runs SEED QUESTIONS ANSWERS`. The questions are a
+//! stream of `generate runs`; the answers are the lines a program gave.
+
+mod makers;
+#[path = "../../generate/src/random.rs"]
+#[allow(dead_code)]
+mod random;
+mod run;
+mod search;
+mod task;
+
+use std::process::ExitCode;
+
+use random::Random;
+use run::Run;
+use search::Search;
+use task::Task;
+
+/// Random runs made for each task.
+const RANDOM_RUNS: usize = 8;
+/// Tasks shown in the table.
+const SHOWN: usize = 10;
+/// Findings that are printed; the others are counted.
+const PRINTED: usize = 5;
+
+const MAKERS: [&str; 6] = ["greedy", "lazy", "sparing", "spread", "random", "search"];
+
+/// The longest run that each maker made; `None`: it made none.
+type Longest = [Option<usize>; MAKERS.len()];
+
+#[derive(Default)]
+struct Tally {
+    asked: usize,
+    tasks: usize,
+    runs: usize,
+    too_long: usize,
+    full: usize,
+    unfinished: usize,
+    unlawful: usize,
+    reached: usize,
+    searched: usize,
+    rows: Vec<String>,
+}
+
+impl Tally {
+    fn examine(&mut self, number: usize, task: &Task, random: &mut Random) {
+        self.tasks += 1;
+        let mut longest: Longest = [None; MAKERS.len()];
+        for (maker, run) in runs(task, random) {
+            self.judge(number, task, MAKERS[maker], &run);
+            longest[maker] = longest[maker].max(Some(run.len()));
+        }
+        self.searched += usize::from(longest[MAKERS.len() - 1].is_some());
+        self.reached += usize::from(longest.iter().max() >= Some(&Some(task.span)));
+        // Where the greedy run lasts as long, the stall makes no difference.
+        if self.rows.len() < SHOWN && longest[0] < Some(task.span) {
+            self.rows.push(row(number, task, &longest));
+        }
+    }
+
+    fn judge(&mut self, number: usize, task: &Task, maker: &str, run: &Run) {
+        self.runs += 1;
+        let full = run::is_full_span(task, run);
+        self.full += usize::from(full);
+        let finding = if let Some(rule) = run::broken_rule(task, run) {
+            self.unlawful += 1;
+            format!("is not lawful: {rule}")
+        } else if !run::is_within(task, run) {
+            self.too_long += 1;
+            format!("has {} periods, the span {}", run.len(), task.span)
+        } else if full && !run::is_done(task, run) {
+            self.unfinished += 1;
+            format!(
+                "fills all {} periods of the span and has work left",
+                task.span
+            )
+        } else {
+            return;
+        };
+        if self.findings() <= PRINTED {
+            println!("question {number}: a {maker} run {finding}");
+        }
+    }
+
+    fn findings(&self) -> usize {
+        self.too_long + self.unfinished + self.unlawful
+    }
+
+    fn print(&self) {
+        let columns = "question | cores | Q | T | computing | requests | span";
+        println!("| {columns} | {} |", MAKERS.join(" | "));
+        println!("|{}", "---|".repeat(7 + MAKERS.len()));
+        for row in &self.rows {
+            println!("{row}");
+        }
+        println!(
+            "{} questions, {} with a span, {} of these searched over all runs",
+            self.asked, self.tasks, self.searched
+        );
+        println!(
+            "{} lawful runs, {} of them full over the span; the span was reached for {} of {}",
+            self.runs - self.unlawful,
+            self.full,
+            self.reached,
+            self.tasks
+        );
+        println!(
+            "{} runs too long, {} full with work left, {} not lawful",
+            self.too_long, self.unfinished, self.unlawful
+        );
+    }
+}
+
+/// Runs of every maker, each with the maker's place in `MAKERS`.
+fn runs(task: &Task, random: &mut Random) -> Vec<(usize, Run)> {
+    let mut runs = vec![
+        (0, makers::greedy(task)),
+        (1, makers::lazy(task)),
+        (2, makers::sparing(task)),
+        (3, makers::spread(task)),
+    ];
+    for _ in 0..RANDOM_RUNS {
+        runs.push((4, makers::random(task, random)));
+    }
+    if let Some(search) = Search::new(task) {
+        runs.push((5, search.longest()));
+        runs.extend(search.full_with_least_work().map(|run| (5, run)));
+    }
+    runs
+}
+
+fn row(number: usize, task: &Task, longest: &Longest) -> String {
+    let periods = task.total_periods();
+    let mut row = format!(
+        "| {number} | {} | {} | {periods} | {} | {} | {} |",
+        task.cores, task.slots, task.computing, task.requests, task.span
+    );
+    for made in longest {
+        row += &made.map_or(" - |".to_string(), |made| format!(" {made} |"));
+    }
+    row
+}
+
+/// The kind and the body of each record.
+fn records(mut bytes: &[u8]) -> Vec<(u8, &[u8])> {
+    let mut records = Vec::new();
+    while let [kind, low, high, rest @ ..] = bytes {
+        let length = usize::from(u16::from_le_bytes([*low, *high]));
+        if rest.len() < length {
+            break;
+        }
+        records.push((*kind, &rest[..length]));
+        bytes = &rest[length..];
+    }
+    records
+}
+
+fn examined(seed: u64, questions: &[u8], answers: &str) -> Result<Tally, String> {
+    let mut tally = Tally::default();
+    let records = records(questions);
+    let lines: Vec<&str> = answers.lines().collect();
+    if records.len() != lines.len() {
+        let (asked, answered) = (records.len(), lines.len());
+        return Err(format!("{asked} questions, {answered} answers"));
+    }
+    for (at, (&(kind, body), line)) in records.iter().zip(lines).enumerate() {
+        tally.asked += 1;
+        if let Some(task) = Task::new(kind, body, line)? {
+            let mut random = Random::new(seed, at as u64);
+            tally.examine(at + 1, &task, &mut random);
+        }
+    }
+    Ok(tally)
+}
+
+fn read_and_examine(words: &[String]) -> Result<Tally, String> {
+    let [seed, questions, answers] = words else {
+        return Err("usage: runs SEED QUESTIONS ANSWERS".to_string());
+    };
+    let seed = seed.parse().map_err(|_| "a seed that is no number")?;
+    let questions = std::fs::read(questions).map_err(|error| error.to_string())?;
+    let answers = std::fs::read_to_string(answers).map_err(|error| error.to_string())?;
+    examined(seed, &questions, &answers)
+}
+
+fn main() -> ExitCode {
+    let words: Vec<String> = std::env::args().skip(1).collect();
+    match read_and_examine(&words) {
+        Ok(tally) => {
+            tally.print();
+            ExitCode::from(u8::from(tally.findings() > 0))
+        }
+        Err(error) => {
+            eprintln!("runs: {error}");
+            ExitCode::from(2)
+        }
+    }
+}
