@@ -282,15 +282,15 @@ pub fn place(
     while k < count {
         let segment = picks[k];
         let i = interval_of(segment);
-        let room = wide(shares[i]) * run_of(segment).0 as u64;
-        if left <= room {
+        let most = wide(shares[i]) * run_of(segment).0 as u64;
+        if left <= most {
             let last = left as u32;
             grant(placement, i, Requests(last));
             return;
         }
-        let filled = room as u32;
+        let filled = most as u32;
         grant(placement, i, Requests(filled));
-        left -= room;
+        left -= most;
         k += 1;
     }
 }

@@ -1,5 +1,5 @@
 use mathlib.Core.Path.{_≡_, refl, ap, _∙_}
-use Prim.Native.Nat.{ℕ, _+_, _-_, _≤_, _<_}
+use Prim.Native.Nat.{ℕ, _+_, _-_, _*_, _≤_, _<_}
 use native.Mathlib.Nat.{le-refl, le-of-lt, mul-le-mul}
 use native.Mathlib.Omega.{arith}
 use denote.Ref.{now}
@@ -99,11 +99,11 @@ granted c more most =
     rw (c .before .before .before .interval-of .ensures .0)
     (omega (arith, inside c, at .inv .0 .fits), omega (arith, at .inv .0 .room _ (inside c), at .inv .1, most))
 
-cast-room : tie.Need-cast-room Inv-loop μ-loop
-cast-room c = search needs
+cast-most : tie.Need-cast-most Inv-loop μ-loop
+cast-most c = search needs
 
-mul-room : tie.Need-mul-room Inv-loop μ-loop
-mul-room c = omega (arith, mul-le-mul (c .before .before .wide .ensures .1) (c .before .run-of .ensures .1))
+mul-most : tie.Need-mul-most Inv-loop μ-loop
+mul-most c = omega (arith, mul-le-mul (c .before .before .wide .ensures .1) (c .before .run-of .ensures .1))
 
 cast-last : tie.Need-cast-last Inv-loop μ-loop
 cast-last c = omega (arith, granted (c .before .before) _ (le-refl _) .1)
@@ -122,10 +122,10 @@ returns c =
     let grant = c .before .before in
     let read = grant .before .before .before .before in
     let at = read .before .before .before .before .before .before in
-    let taken = rw (share-is read, read .run-of .ensures .0) at (grant .before .before .if1 .taken) in
+    let few : at .loop .left ≤ read .before .wide .result * read .run-of .result .0 = grant .before .before .if1 .taken in
     grant .grant .ensures
     ∙ rw (read .before .before .before .interval-of .ensures .0, ← cleared at)
-    (filling-stop (at .loop .inv .0) (read .before .before .before .before .before .loop-test .taken) (inside read) taken)
+    (filling-stop (at .loop .inv .0) (read .before .before .before .before .before .loop-test .taken) (inside read) (rw (share-is read, read .run-of .ensures .0) at few))
 
 cast-filled : tie.Need-cast-filled Inv-loop μ-loop
 cast-filled c = omega (arith, granted (c .before .before) _ (le-of-lt (c .if1 .left)) .1)
@@ -176,8 +176,8 @@ place-spec =
     element-copy-out-wide
     wide-requires
     run-of-requires
-    cast-room
-    mul-room
+    cast-most
+    mul-most
     cast-last
     grant-requires
     same-length

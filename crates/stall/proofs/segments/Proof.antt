@@ -27,7 +27,7 @@ rises : (c : tie.In-loop Inv-loop μ-loop)
     let at = c .before .loop in
     (getD (getD (now (a .rates)) (a .interval) []) (at .k) 0 ≤ getD (getD (now (a .rates)) (a .interval) []) (at .k + 1) 0)
     × (getD (getD (now (a .stalls)) (a .interval) []) (at .k) 0 ≤ getD (getD (now (a .stalls)) (a .interval) []) (at .k + 1) 0)
-rises c = along-rises (c .before .loop .inv) (c .loop-test .taken)
+rises c = along-rises (c .before .loop .inv) (omega arith)
 
 add-loop : tie.Need-add-loop Inv-loop μ-loop
 add-loop c = search needs
@@ -65,10 +65,10 @@ loop-again c =
     let packs =
     c .packed .ensures
     ∙ ap₂ {A = ℕ} {B = ℕ} {C = Pick} (λ n m. record { interval = start .args .interval; run = n; rise = m }) runs rises in
-    along-more (at .inv) (c .packed .result) (c .before .before .before .loop-test .taken) (start .pre .1) (start .pre .2) (start .pre .3) packs
+    along-more (at .inv) (c .packed .result) (omega arith) (start .pre .1) (start .pre .2) (start .pre .3) packs
 
 returns : tie.Need-returns Inv-loop μ-loop
-returns c = along-all (c .before .loop .inv) (c .loop-test .left)
+returns c = along-all (c .before .loop .inv) (omega arith)
 
 pub segments-spec : {M : Type 1} → statement M
 segments-spec =
