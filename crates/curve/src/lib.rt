@@ -54,14 +54,14 @@ fn wide(number: u16) -> u32
     number as u32
 }
 
-// The stall that one other core makes: the smaller of the rate and its budget.
-fn smaller(rate: Requests, budget: u16) -> Slots
-    ensures { λ r. ⌜ r .0 ≡ min (rate .0) budget ⌝ }
+// The stall that one other core makes: the smaller of the rate and that core's budget.
+fn smaller(rate: Requests, other: Requests) -> Slots
+    ensures { λ r. ⌜ r .0 ≡ min (rate .0) (other .0) ⌝ }
 {
-    if rate.0 < budget as u32 {
-        Slots(rate.0)
+    if rate.0 < other.0 {
+        rate.slots()
     } else {
-        Slots(budget as u32)
+        other.slots()
     }
 }
 
@@ -73,23 +73,23 @@ fn sum_of_smaller(row: &[u16], rate: Requests) -> Slots
     let mut sum: u32 = 0;
     let mut i = 0;
     while i < row.len() {
-        sum += smaller(rate, row[i]).0;
+        sum += smaller(rate, Requests(wide(row[i]))).0;
         i += 1;
     }
     Slots(sum)
 }
 
 // The raw stall at a rate. Below the core's budget its own part of the sum is the rate itself.
-pub fn raw_at(each: Slots, row: &[u16], core: u8, rate: Requests) -> Slots
+fn raw_at(each: Slots, row: &[u16], core: u8, rate: Requests) -> Slots
     requires { ⌜ Whole (each .0) core (now row) ⌝ }
     ensures { λ r. ⌜ r .0 ≡ raw (each .0) (now (row .entry)) core (rate .0) ⌝ }
 {
     let own = core as usize - 1;
-    let budget = wide(row[own]);
-    if rate.0 < budget {
-        Slots(sum_of_smaller(row, rate).0 - rate.0)
+    let budget = Requests(wide(row[own]));
+    if rate.0 < budget.0 {
+        Slots(sum_of_smaller(row, rate).0 - rate.slots().0)
     } else {
-        Slots(each.0 - budget)
+        Slots(each.0 - budget.slots().0)
     }
 }
 

@@ -1,4 +1,5 @@
 pub mod Worked
 pub mod Table
+pub mod Example
 pub mod Demands
 pub mod RunsByNumber

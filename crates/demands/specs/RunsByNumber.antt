@@ -1,10 +1,10 @@
--- Lawful runs said once more, by the number of each period, and that such a run is lawful: so every one of them ends within the span.
+-- Lawful runs said once more, by the number of each period, and that the two definitions say the same: so every such run ends within the span.
 use mathlib.Core.Path.{_≡_, refl, sym, ap, _∙_, subst}
 use mathlib.Core.Bool.{cond}
 use mathlib.Core.Logic.{⊎-elim}
 use mathlib.Core.List.{List, [], _∷_, _++_}
 use Prim.Native.Nat.{ℕ, zero, suc, _+_, _-_, _≤_, _<_}
-use native.Mathlib.Nat.{le-refl, le-of-suc-le-suc, not-suc-le-zero}
+use native.Mathlib.Nat.{le-of-suc-le-suc, not-suc-le-zero}
 use native.Mathlib.Omega.{arith}
 use lib.ListN.{length, getD, replicate, length-append, length-replicate, getD-replicate, List·getD-append}
 use lib.Seq.{getD-append-add}
@@ -15,8 +15,7 @@ use Rattle.meaning.specs.Curve.{raw}
 use Rattle.meaning.specs.Run.{Period, used, rowByPeriod, Allowed, LawfulOver, computed, requested, Lawful, EndsWithin}
 use Rattle.meaning.specs.Promises.{SpanFigures, SpanAnswer}
 use Rattle.laws.specs.Order.{le-or-lt}
-use Rattle.laws.specs.Judging.{SoundPlan, rows-count}
-use Rattle.laws.specs.Outliving.{answer-given}
+use Rattle.laws.specs.Judging.{rows-count}
 use Rattle.demands.specs.Demands.{runs-end}
 
 -- the interval that period k lies in, both from 0
@@ -86,6 +85,7 @@ record ByNumber (perPeriod core : ℕ) (rs : List (List ℕ)) (ds : List Period)
   room : (k : ℕ) → suc k ≡ length ds → used (getD ds k idle) ≤ perPeriod
   works : (k : ℕ) → suc k ≡ length ds → 1 ≤ getD ds k idle .computing + getD ds k idle .requests
 
+-- what holds by number holds period by period
 lawful-over : (perPeriod core : ℕ) (rs : List (List ℕ)) (ds : List Period) → ByNumber perPeriod core rs ds → LawfulOver perPeriod core rs ds
 lawful-over perPeriod core rs [] h = tt
 lawful-over perPeriod core [] (d ∷ ds) h = absurd (not-suc-le-zero (h .within))
@@ -127,7 +127,105 @@ lawful-by-number p w run h =
       requests = h .requests;
     }
 
--- so it ends within a span once given
+-- the empty run
+no-period : (perPeriod core : ℕ) (rs : List (List ℕ)) → ByNumber perPeriod core rs []
+no-period perPeriod core rs =
+    record {
+      within = omega arith;
+      allowed = λ k inside. absurd (not-suc-le-zero inside);
+      whole = λ k inside. absurd (not-suc-le-zero inside);
+      room = λ k last. absurd (omega (arith, last));
+      works = λ k last. absurd (omega (arith, last));
+    }
+
+-- a run of one period
+last-period : (perPeriod core : ℕ) (r : List ℕ) (rs : List (List ℕ)) (d : Period)
+    → Allowed perPeriod core r d
+    → used d ≤ perPeriod
+    → 1 ≤ d .computing + d .requests
+    → ByNumber perPeriod core (r ∷ rs) (d ∷ [])
+last-period perPeriod core r rs d here fits some =
+    record {
+      within = omega arith;
+      allowed = allowed;
+      whole = λ k inside. absurd (not-suc-le-zero (le-of-suc-le-suc inside));
+      room = room;
+      works = works;
+    }
+  where
+    allowed : (k : ℕ) → k < 1 → Allowed perPeriod core (getD (r ∷ rs) k []) (getD (d ∷ []) k idle)
+    allowed zero inside = here
+    allowed (suc k) inside = absurd (not-suc-le-zero (le-of-suc-le-suc inside))
+
+    room : (k : ℕ) → suc k ≡ 1 → used (getD (d ∷ []) k idle) ≤ perPeriod
+    room zero last = fits
+    room (suc k) last = absurd (omega (arith, last))
+
+    works : (k : ℕ) → suc k ≡ 1 → 1 ≤ getD (d ∷ []) k idle .computing + getD (d ∷ []) k idle .requests
+    works zero last = some
+    works (suc k) last = absurd (omega (arith, last))
+
+-- a full period before others
+one-period-more : (perPeriod core : ℕ) (r : List ℕ) (rs : List (List ℕ)) (d e : Period) (ds : List Period)
+    → Allowed perPeriod core r d
+    → used d ≡ perPeriod
+    → ByNumber perPeriod core rs (e ∷ ds)
+    → ByNumber perPeriod core (r ∷ rs) (d ∷ e ∷ ds)
+one-period-more perPeriod core r rs d e ds here full later =
+    record { within = omega (arith, later .within); allowed = allowed; whole = whole; room = room; works = works }
+  where
+    allowed : (k : ℕ)
+        → k < length (d ∷ e ∷ ds)
+        → Allowed perPeriod core (getD (r ∷ rs) k []) (getD (d ∷ e ∷ ds) k idle)
+    allowed zero inside = here
+    allowed (suc k) inside = later .allowed k (le-of-suc-le-suc inside)
+
+    whole : (k : ℕ) → suc k < length (d ∷ e ∷ ds) → used (getD (d ∷ e ∷ ds) k idle) ≡ perPeriod
+    whole zero inside = full
+    whole (suc k) inside = later .whole k (le-of-suc-le-suc inside)
+
+    room : (k : ℕ) → suc k ≡ length (d ∷ e ∷ ds) → used (getD (d ∷ e ∷ ds) k idle) ≤ perPeriod
+    room zero last = absurd (omega (arith, last))
+    room (suc k) last = later .room k (omega (arith, last))
+
+    works : (k : ℕ)
+        → suc k ≡ length (d ∷ e ∷ ds)
+        → 1 ≤ getD (d ∷ e ∷ ds) k idle .computing + getD (d ∷ e ∷ ds) k idle .requests
+    works zero last = absurd (omega (arith, last))
+    works (suc k) last = later .works k (omega (arith, last))
+
+-- what holds period by period holds by number
+by-number : (perPeriod core : ℕ) (rs : List (List ℕ)) (ds : List Period) → LawfulOver perPeriod core rs ds → ByNumber perPeriod core rs ds
+by-number perPeriod core rs [] h = no-period perPeriod core rs
+by-number perPeriod core [] (d ∷ ds) h = absurd h
+by-number perPeriod core (r ∷ rs) (d ∷ []) h = last-period perPeriod core r rs d (h .0) (h .1) (h .2)
+by-number perPeriod core (r ∷ rs) (d ∷ e ∷ ds) h =
+    one-period-more perPeriod core r rs d e ds (h .0) (h .1) (by-number perPeriod core rs (e ∷ ds) (h .2))
+
+-- and a lawful run is such a run: the two definitions say the same
+pub lawful-is-by-number : (p : Plan) (w : Workload) (run : List Period) → Lawful p w run → LawfulByNumber p w run
+lawful-is-by-number p w run h =
+    let rs = rowByPeriod (p .lengths) (rows p) in
+    let count = rows-by-period (p .lengths) (rows p) (rows-count (p .cores) (p .lengths) (p .budgets)) in
+    let found = by-number (p .perPeriod) (w .core) rs run (h .periodByPeriod) in
+    let allowed : (k : ℕ) → k < length run → Allowed (p .perPeriod) (w .core) (rowOf p k) (getD run k idle) =
+    λ k inside.
+    subst
+    (λ (r : List ℕ). Allowed (p .perPeriod) (w .core) r (getD run k idle))
+    (row-by-period (p .lengths) (rows p) k (omega (arith, inside, found .within)))
+    (found .allowed k inside) in
+    record {
+      within = omega (arith, found .within, count);
+      budget = λ k inside. allowed k inside .budget;
+      stalled = λ k inside. allowed k inside .stalled;
+      whole = found .whole;
+      room = found .room;
+      works = found .works;
+      computing = h .computing;
+      requests = h .requests;
+    }
+
+-- so such a run ends within a span once given
 pub runs-end-by-number : (p : Plan) (w : Workload) (room : ℕ) (a : SpanFigures) (xs : List ℕ) (run : List Period)
     → SpanAnswer p w room a xs
     → a .refused ≡ 0

@@ -1,28 +1,30 @@
 -- The table P1 to P10 of document 01, under one proved statement over the definitions.
 use mathlib.Core.Path.{_≡_, refl}
-use mathlib.Core.List.{List, [], _∷_, map}
+use mathlib.Core.List.{List, [], _∷_}
 use Prim.Native.Nat.{ℕ}
 use lib.ListN.{length}
 use Rattle.meaning.specs.Fraction.{roundUp}
-use Rattle.meaning.specs.Plan.{Plan, Workload, intervals, rowsOf}
+use Rattle.meaning.specs.Plan.{Plan, Workload, intervals, rowsOf, All}
 use Rattle.meaning.specs.Curve.{Curve, raw, others, sumOfSmaller, rates, EnvelopeOf}
 use Rattle.meaning.specs.Placement.{shares, AnsweredAt}
+use Rattle.meaning.specs.Span.{firstTerm, NextTerm}
 use Rattle.meaning.specs.Refusals.{intervalsRefusal, planRefusal, withoutBudget, coreRefusal, placementRefusal, spanRefusal}
 use Rattle.meaning.specs.PlanFile.{tabulate}
 use Rattle.meaning.specs.Promises.{SpanFigures, noSpanFigures, SpanAnswer}
-use Rattle.laws.specs.Judging.{All}
 use Rattle.laws.specs.Indexed.{listFrom}
 use Rattle.laws.specs.Filling.{walk, fill}
 use Rattle.laws.specs.Merging.{orderTo, merged, weave, picksFrom}
 use Rattle.laws.specs.Spanning.{sought, oneMore}
 use Rattle.laws.specs.Claims.{covered, cornersRight, envelopeRight, curvesRight, envelope-checked, claim-answer, claim-placement}
+use Rattle.laws.specs.ClaimedTerms.{claim-next}
 use Rattle.demands.specs.Worked.{examplePlan}
 
 infixr 10 _also_
--- a row: the raw stalls and the corners of a core with budgets 2, 2, 5, 7 and Q = 16; or a workload on a plan and its answer; or a placement at a given W and its stall
+-- a row: the raw stalls and the corners of a core with budgets 2, 2, 5, 7 and Q = 16; or a workload on a plan and its answer; or its terms; or a placement at a given W and its stall
 pub data Row : Type 0 where
   curveRow : (core : ℕ) (raws corners : List ℕ) → Row
   spanRow : Plan → Workload → SpanFigures → List ℕ → Row
+  termsRow : Plan → Workload → List ℕ → Row
   placementRow : Plan → (core requests n : ℕ) → (stall : ℕ) → List ℕ → Row
 
 -- the budgets of the table
@@ -47,6 +49,16 @@ three =
       budgets = 2 ∷ 2 ∷ 5 ∷ 7 ∷ 2 ∷ 3 ∷ 7 ∷ 4 ∷ 5 ∷ 5 ∷ 1 ∷ 5 ∷ [];
     }
 
+-- three intervals of one period with the budgets of the table
+abbrev pub same : Plan
+same =
+    record {
+      cores = 4;
+      perPeriod = 16;
+      lengths = 1 ∷ 1 ∷ 1 ∷ [];
+      budgets = 2 ∷ 2 ∷ 5 ∷ 7 ∷ 2 ∷ 2 ∷ 5 ∷ 7 ∷ 2 ∷ 2 ∷ 5 ∷ 7 ∷ [];
+    }
+
 -- a workload: core, computing, requests, horizon
 abbrev pub load : ℕ → ℕ → ℕ → ℕ → Workload
 load core computing requests horizon =
@@ -65,9 +77,10 @@ table =
     ∷ curveRow 3 (0 ∷ 3 ∷ 6 ∷ 7 ∷ 8 ∷ 11 ∷ []) (0 ∷ 2 ∷ 5 ∷ [])
     -- P3
     ∷ curveRow 4 (0 ∷ 3 ∷ 6 ∷ 7 ∷ 8 ∷ 9 ∷ 9 ∷ 9 ∷ []) (0 ∷ 2 ∷ 5 ∷ 7 ∷ [])
-    -- P4, and with H = 10
+    -- P4, with H = 10 the same, and its terms
     ∷ spanRow plan (load 3 40 35 20) (given 10 85 3) (35 ∷ [])
     ∷ spanRow plan (load 3 40 35 10) (given 10 85 3) (35 ∷ [])
+    ∷ termsRow plan (load 3 40 35 20) (5 ∷ 9 ∷ 10 ∷ 10 ∷ [])
     -- P5
     ∷ spanRow plan (load 3 40 35 9) (noSpanFigures 12) []
     -- P6
@@ -86,7 +99,21 @@ table =
     ∷ spanRow examplePlan (load 3 10 10 3) (noSpanFigures 12) []
     -- 004, section VI, at W = 6
     ∷ placementRow three 3 25 6 58 (22 ∷ 3 ∷ 0 ∷ [])
+    -- core 4 at W = 1: the last segment is flat, and it is filled too
+    ∷ placementRow plan 4 7 1 9 (7 ∷ [])
+    -- three intervals with one curve at W = 3: 3 requests in each would stall 7 2/3 each, 24 if rounded up before the total
+    ∷ placementRow same 3 9 3 23 (5 ∷ 2 ∷ 2 ∷ [])
     ∷ []
+
+-- each number is the next term of the one before it, the first of them that of t
+abbrev pub NextTerms : Plan → Workload → ℕ → List ℕ → Type 0
+NextTerms p w t [] = Unit {0}
+NextTerms p w t (next ∷ later) = NextTerm p w t next × NextTerms p w next later
+
+-- the terms of a workload, from the first on
+abbrev pub Terms : Plan → Workload → List ℕ → Type 0
+Terms p w [] = ⊥
+Terms p w (t ∷ later) = (t ≡ firstTerm p w) × NextTerms p w t later
 
 -- what a row says, over the definitions
 abbrev pub RowHolds : Row → Type 0
@@ -96,6 +123,7 @@ RowHolds (curveRow core raws corners) =
     × EnvelopeOf 16 core budgets c
     × (rates c ≡ corners)
 RowHolds (spanRow p w a xs) = SpanAnswer p w (intervals p) a xs
+RowHolds (termsRow p w terms) = Terms p w terms
 RowHolds (placementRow p core requests n stall xs) = AnsweredAt p core requests n xs stall
 
 -- the corners of cores 1, 3 and 4, of core 3 with equal budgets, and of the core that is alone
@@ -150,6 +178,11 @@ table-holds =
     also (refl, curve4, envelope-checked (raw 16 budgets 4) 7 curve4 refl, refl)
     also claim-answer plan (load 3 40 35 20) 1 (curve3 ∷ []) refl refl
     also claim-answer plan (load 3 40 35 10) 1 (curve3 ∷ []) refl refl
+    also (refl
+    also claim-next plan (load 3 40 35 20) 5 1 (curve3 ∷ []) refl refl
+    also claim-next plan (load 3 40 35 20) 9 1 (curve3 ∷ []) refl refl
+    also claim-next plan (load 3 40 35 20) 10 1 (curve3 ∷ []) refl refl
+    also tt)
     also claim-answer plan (load 3 40 35 9) 1 (curve3 ∷ []) refl refl
     also claim-answer plan (load 3 17 0 20) 1 (curve3 ∷ []) refl refl
     also claim-answer plan (load 3 16 0 20) 1 (curve3 ∷ []) refl refl
@@ -161,4 +194,6 @@ table-holds =
     also claim-answer examplePlan (load 3 10 10 5) 2 (curve3 ∷ equal3 ∷ []) refl refl
     also claim-answer examplePlan (load 3 10 10 3) 2 (curve3 ∷ equal3 ∷ []) refl refl
     also claim-placement three 3 25 6 3 (curve3 ∷ second3 ∷ third3 ∷ []) refl refl
+    also claim-placement plan 4 7 1 1 (curve4 ∷ []) refl refl
+    also claim-placement same 3 9 3 3 (curve3 ∷ curve3 ∷ curve3 ∷ []) refl refl
     also tt

@@ -1,22 +1,20 @@
 -- From filling to the answered placement of a list of parts, and the value of its stall.
 use mathlib.Core.Path.{_≡_, refl, sym, ap, _∙_, subst}
-use mathlib.Core.Logic.{_⊎_, inl, inr, ⊎-elim}
-use mathlib.Core.List.{List, [], _∷_}
-use Prim.Native.Nat.{ℕ, zero, suc, _+_, _*_, _≤_, _<_}
-use native.Mathlib.Nat.{le-refl, zero-add, mul-zero}
+use mathlib.Core.Logic.{inl, inr, ⊎-elim}
+use mathlib.Core.List.{List, []}
+use Prim.Native.Nat.{ℕ, zero, suc, _+_, _*_, _≤_}
+use native.Mathlib.Nat.{zero-add, mul-zero}
 use native.Mathlib.Omega.{arith}
-use lib.ListN.{length}
 use Rattle.meaning.specs.Fraction.{Fraction, Proper, _=ᶠ_}
 use Rattle.meaning.specs.Plan.{sumOf}
 use Rattle.meaning.specs.Curve.{Curve}
 use Rattle.meaning.specs.Placement.{Part, total, Answered}
 use Rattle.laws.specs.Shape.{Concave}
 use Rattle.laws.specs.Price.{here}
-use Rattle.laws.specs.Fractions.{Times}
 use Rattle.laws.specs.Certificate.{Certificate, Certified, excesses, total-touch, total-proper, certified-answered}
 use Rattle.laws.specs.Indexed.{listFrom, sumFrom, list-length, sum-list}
 use Rattle.laws.specs.Filling.{Pick, Order, Walk, walk, fill}
-use Rattle.laws.specs.Filled.{Outcome, Ends, partAt, stallOf, filled}
+use Rattle.laws.specs.Filled.{Outcome, stallOf, filled}
 
 -- certificates for each index certify the lists
 certified-from : (p d k : ℕ) (excess : ℕ → ℕ) (s : ℕ → Part) (x : ℕ → ℕ) (i n : ℕ)
@@ -41,11 +39,11 @@ walkStall stall w = record { num = (stall + w .whole) * w .run + w .left * w .ri
 module _ (n : ℕ) (share : ℕ → ℕ) (curve : ℕ → Curve) (sound : (i : ℕ) → Concave (curve i)) (o : List Pick) (requests : ℕ)
     (order : Order curve o) (ends : (i : ℕ) → n ≤ i → curve i .rest ≡ []) where
   -- the parts
-  abbrev pub partList : List Part
+  abbrev partList : List Part
   partList = listFrom 0 n (λ j. record { share = share j; curve = curve j })
 
   -- what is filled
-  abbrev pub filledList : List ℕ
+  abbrev filledList : List ℕ
   filledList = listFrom 0 n (fill share o requests (λ j. 0))
 
   outcome : Outcome n share curve sound (sumFrom 0 n (λ j. 0) + requests) (stallOf n share curve sound curve) (fill share o requests (λ j. 0)) (walk share o requests)

@@ -7,13 +7,8 @@ use native.Mathlib.Omega.{arith}
 use lib.ListN.{length, take, drop}
 use lib.Seq.{drop-cons}
 use lib.Count.{ones}
-use Rattle.meaning.specs.PlanFile.{byteAt, tabulate, twoBytes, fourBytes, recordOf, maskOf, listedOf}
-use Rattle.laws.specs.Judging.{All}
+use Rattle.meaning.specs.PlanFile.{byteAt, tabulate, twoBytes, fourBytes, recordOf, maskOf, listedOf, Bytes}
 use Rattle.laws.specs.Masks.{tabulate-same, listed-count}
-
--- a list of bytes
-abbrev pub Bytes : List ℕ → Type 0
-Bytes s = All (λ (b : ℕ). b < 256) s
 
 -- each is below 256
 pub byte-lt : (s : List ℕ) (i : ℕ) → Bytes s → byteAt s i < 256

@@ -1,12 +1,12 @@
 -- A placement with a price: what each interval has to show, and that such a placement is the answered one.
-use mathlib.Core.Path.{_≡_, refl, sym, ap, _∙_, subst}
+use mathlib.Core.Path.{_≡_, sym, ap, _∙_}
 use mathlib.Core.Logic.{_⊎_, inl, inr, ⊎-elim}
 use mathlib.Core.List.{List, [], _∷_}
-use Prim.Native.Nat.{ℕ, zero, suc, _+_, _*_, _≤_, _<_}
+use Prim.Native.Nat.{ℕ, suc, _+_, _*_, _≤_, _<_}
 use native.Mathlib.Nat.{le-refl, le-trans, le-of-eq, eq-or-lt-of-le, mul-le-mul-left, zero-mul}
 use native.Mathlib.Omega.{arith}
 use lib.ListN.{length}
-use Rattle.meaning.specs.Fraction.{Fraction, Proper, whole, _≤ᶠ_, _=ᶠ_, _+ᶠ_}
+use Rattle.meaning.specs.Fraction.{Fraction, Proper, _≤ᶠ_}
 use Rattle.meaning.specs.Plan.{sumOf}
 use Rattle.meaning.specs.Curve.{limit, intervalStall}
 use Rattle.meaning.specs.Placement.{Part, Fitting, Placement, total, Greatest, NotAhead, Answered}
@@ -53,7 +53,7 @@ module _ (p d k : ℕ) (excess : ℕ → ℕ) where
       sum-proper (partStall s y) (total ss ys) (c .0 .proper y) (total-proper (suc i) ss xs ys (c .1))
 
   -- for every placement the price bounds the total stall
-  pub total-bound : (i : ℕ) (ss : List Part) (xs ys : List ℕ)
+  total-bound : (i : ℕ) (ss : List Part) (xs ys : List ℕ)
       → (c : Certified p d k excess i ss xs)
       → Fitting ss ys
       → TimesLe d (total ss ys) (p * sumOf ys + excesses excess i ss)
@@ -155,7 +155,7 @@ module _ (p d k : ℕ) (excess : ℕ → ℕ) where
       (eq-or-lt-of-le most)
 
 -- all requests are placed, or the price is 0 and the requests run out in no interval
-abbrev pub Spent : ℕ → ℕ → ℕ → List Part → List ℕ → Type 0
+abbrev Spent : ℕ → ℕ → ℕ → List Part → List ℕ → Type 0
 Spent p k requests ss xs = (sumOf xs ≡ requests) ⊎ ((p ≡ 0) × (length ss ≤ k))
 
 -- at the price no other number of requests counts for more

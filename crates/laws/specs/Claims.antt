@@ -1,10 +1,10 @@
 -- Claims that are checked by computing: corners that are given for each interval, and the answer that follows from them.
-use mathlib.Core.Path.{_≡_, refl, sym, ap, _∙_, subst}
+use mathlib.Core.Path.{_≡_, sym, subst}
 use mathlib.Core.Bool.{Bool, true, false, _&&_, false≢true}
 use mathlib.Core.Logic.{⊎-elim}
 use mathlib.Core.List.{List, [], _∷_}
 use Prim.Native.Nat.{ℕ, zero, suc, _+_, _-_, _*_, _≤_, _<_}
-use native.Mathlib.Nat.{le-refl, le-of-eq, le-of-lt, eq-or-lt-of-le, add-sub-of-le, not-suc-le-zero, le-of-suc-le-suc}
+use native.Mathlib.Nat.{le-of-lt, eq-or-lt-of-le, add-sub-of-le, not-suc-le-zero, le-of-suc-le-suc}
 use native.Mathlib.Omega.{arith}
 use lib.ListN.{length, getD}
 use lib.Dec.{leb, ltb, eqb}
@@ -14,23 +14,14 @@ use Rattle.meaning.specs.Plan.{Plan, Workload, intervals, rows, budgetOf}
 use Rattle.meaning.specs.Curve.{Corner, Curve, limit, slope, onSegment, OnRaw, Rising, Falling, Covering, Envelope, EnvelopeOf, raw}
 use Rattle.meaning.specs.Placement.{shares, AnsweredAt}
 use Rattle.meaning.specs.Refusals.{placementRefusal, spanRefusal}
-use Rattle.meaning.specs.Promises.{SpanFigures, SpanAnswer}
+use Rattle.meaning.specs.Promises.{SpanAnswer}
 use Rattle.laws.specs.Indexed.{listFrom}
-use Rattle.laws.specs.Filling.{Pick, walk, fill}
+use Rattle.laws.specs.Filling.{walk, fill}
 use Rattle.laws.specs.Answering.{walkStall}
 use Rattle.laws.specs.Merging.{none, within, orderTo}
-use Rattle.laws.specs.Judging.{SoundPlan}
+use Rattle.laws.specs.Judging.{and-first, and-second, SoundPlan}
 use Rattle.laws.specs.Existing.{CurvesOf, answered-in-order}
 use Rattle.laws.specs.Questions.{sound-placement, sound-span, soughtFigures, soughtPlacement, searchBy, search-answer}
-
-both-left : (a b : Bool) → (a && b) ≡ true → a ≡ true
-both-left true b e = refl
-both-left false b e = e
-
-both-right : (a b : Bool) → (a && b) ≡ true → b ≡ true
-both-right true b e = e
-both-right false true e = refl
-both-right false false e = e
 
 -- the raw stall at a rate is on or under a segment
 abbrev coveredAt : (ℕ → ℕ) → Corner → Corner → ℕ → Bool
@@ -77,9 +68,9 @@ covered-at stallAt a b (suc n) e r from to =
     subst
     (λ (k : ℕ). whole (stallAt k) ≤ᶠ onSegment a b 1 k)
     (sym at)
-    (leb-true _ _ (both-right (covered stallAt a b n) (coveredAt stallAt a b (a .rate + suc n)) e)))
+    (leb-true _ _ (and-second (covered stallAt a b n) (coveredAt stallAt a b (a .rate + suc n)) e)))
     (λ before.
-    covered-at stallAt a b n (both-left (covered stallAt a b n) (coveredAt stallAt a b (a .rate + suc n)) e) r from (omega (arith, before)))
+    covered-at stallAt a b n (and-first (covered stallAt a b n) (coveredAt stallAt a b (a .rate + suc n)) e) r from (omega (arith, before)))
     (eq-or-lt-of-le to)
 
 -- what a check of corners shows
@@ -103,18 +94,18 @@ corners-shown stallAt a (b ∷ cs) e =
     let t3 = covered stallAt a b (b .rate - a .rate) in
     let t4 = lessSteep a b cs in
     let t5 = cornersRight stallAt b cs in
-    let e4 = both-left (t1 && t2 && t3 && t4) t5 e in
-    let e3 = both-left (t1 && t2 && t3) t4 e4 in
-    let e2 = both-left (t1 && t2) t3 e3 in
-    let up : a .rate < b .rate = ltb-true (a .rate) (b .rate) (both-right t1 t2 e2) in
-    let later = corners-shown stallAt b cs (both-right (t1 && t2 && t3 && t4) t5 e) in
+    let e4 = and-first (t1 && t2 && t3 && t4) t5 e in
+    let e3 = and-first (t1 && t2 && t3) t4 e4 in
+    let e2 = and-first (t1 && t2) t3 e3 in
+    let up : a .rate < b .rate = ltb-true (a .rate) (b .rate) (and-second t1 t2 e2) in
+    let later = corners-shown stallAt b cs (and-second (t1 && t2 && t3 && t4) t5 e) in
     record {
-      onRaw = (eqb-true (a .stall) (stallAt (a .rate)) (both-left t1 t2 e2), later .onRaw);
+      onRaw = (eqb-true (a .stall) (stallAt (a .rate)) (and-first t1 t2 e2), later .onRaw);
       rising = (up, later .rising);
-      falling = falling-from a b cs (both-right (t1 && t2 && t3) t4 e4) (later .falling);
+      falling = falling-from a b cs (and-second (t1 && t2 && t3) t4 e4) (later .falling);
       covering = (
         λ r from to.
-            covered-at stallAt a b (b .rate - a .rate) (both-right (t1 && t2) t3 e3) r from
+            covered-at stallAt a b (b .rate - a .rate) (and-second (t1 && t2) t3 e3) r from
             (omega (arith, to, add-sub-of-le (le-of-lt up))),
         later .covering,
       );
@@ -127,11 +118,11 @@ envelope-checked stallAt q c e =
     let t1 = eqb (c .first .rate) 0 in
     let t2 = eqb (limit c) q in
     let t3 = cornersRight stallAt (c .first) (c .rest) in
-    let e2 = both-left (t1 && t2) t3 e in
-    let shown = corners-shown stallAt (c .first) (c .rest) (both-right (t1 && t2) t3 e) in
+    let e2 = and-first (t1 && t2) t3 e in
+    let shown = corners-shown stallAt (c .first) (c .rest) (and-second (t1 && t2) t3 e) in
     record {
-      starts = eqb-true (c .first .rate) 0 (both-left t1 t2 e2);
-      ends = eqb-true (limit c) q (both-right t1 t2 e2);
+      starts = eqb-true (c .first .rate) 0 (and-first t1 t2 e2);
+      ends = eqb-true (limit c) q (and-second t1 t2 e2);
       onRaw = shown .onRaw;
       rising = shown .rising;
       falling = shown .falling;
@@ -155,10 +146,10 @@ curves-checked perPeriod core [] cs e i h = absurd (not-suc-le-zero h)
 curves-checked perPeriod core (r ∷ rs) [] e i h = absurd (false≢true e)
 curves-checked perPeriod core (r ∷ rs) (c ∷ cs) e zero h =
     envelope-checked (raw perPeriod r core) (budgetOf core r) c
-    (both-left (envelopeRight (raw perPeriod r core) (budgetOf core r) c) (curvesRight perPeriod core rs cs) e)
+    (and-first (envelopeRight (raw perPeriod r core) (budgetOf core r) c) (curvesRight perPeriod core rs cs) e)
 curves-checked perPeriod core (r ∷ rs) (c ∷ cs) e (suc i) h =
     curves-checked perPeriod core rs cs
-    (both-right (envelopeRight (raw perPeriod r core) (budgetOf core r) c) (curvesRight perPeriod core rs cs) e)
+    (and-second (envelopeRight (raw perPeriod r core) (budgetOf core r) c) (curvesRight perPeriod core rs cs) e)
     i
     (le-of-suc-le-suc h)
 

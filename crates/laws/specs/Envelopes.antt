@@ -1,9 +1,9 @@
 -- The envelope is the least concave curve that is nowhere below the raw stall at whole rates.
-use mathlib.Core.Path.{_≡_, refl, sym, ap, _∙_, subst}
+use mathlib.Core.Path.{_≡_, sym, ap, subst}
 use mathlib.Core.Logic.{⊎-elim}
 use mathlib.Core.List.{List, [], _∷_}
-use Prim.Native.Nat.{ℕ, _+_, _-_, _*_, _≤_, _<_}
-use native.Mathlib.Nat.{le-refl, le-trans, le-of-lt, le-of-eq, le-antisymm, mul-le-mul-left, mul-le-mul-right, le-of-mul-le-mul-right}
+use Prim.Native.Nat.{ℕ, _+_, _*_, _≤_}
+use native.Mathlib.Nat.{le-refl, le-trans, le-of-lt, le-of-eq, le-antisymm, mul-le-mul-left, le-of-mul-le-mul-right}
 use native.Mathlib.Omega.{arith}
 use borrow.Author.Tests.{le-leb, lt-leb}
 use Rattle.meaning.specs.Fraction.{Fraction, Proper, whole, _≤ᶠ_}
@@ -13,7 +13,7 @@ use Rattle.laws.specs.Shape.{Rises, Concave, envelope-concave, rate-le-l
 use Rattle.laws.specs.Fractions.{TimesLe, le-of-times}
 use Rattle.laws.specs.Price.{Under}
 use Rattle.laws.specs.Passing.{stall-proper}
-use Rattle.laws.specs.Tangent.{Tangent, tangent, under-bound}
+use Rattle.laws.specs.Tangent.{tangent, under-bound}
 
 -- a curve is nowhere below the raw stall at whole rates
 abbrev pub Over : (ℕ → ℕ) → ℕ → Curve → Type 0

@@ -2,26 +2,26 @@
 use mathlib.Core.Path.{_≡_, refl, sym, ap, _∙_, subst, fun-ext}
 use mathlib.Core.Logic.{_⊎_, inl, inr, ⊎-elim}
 use mathlib.Core.List.{List, [], _∷_}
-use Prim.Native.Nat.{ℕ, zero, suc, _+_, _-_, _*_, _≤_, _<_, min, zero-le}
-use native.Mathlib.Nat.{le-refl, le-trans, le-of-lt, lt-of-lt-of-le, not-suc-le-zero, le-of-suc-le-suc, lt-irrefl, zero-add, add-zero, suc-inj}
+use Prim.Native.Nat.{ℕ, zero, suc, _+_, _-_, _*_, _≤_, _<_, zero-le}
+use native.Mathlib.Nat.{lt-of-lt-of-le, lt-irrefl, zero-add, add-zero, suc-inj}
 use native.Mathlib.Omega.{arith}
 use lib.ListN.{length, getD}
-use Rattle.meaning.specs.Fraction.{Fraction, Proper, _=ᶠ_, roundUp}
+use Rattle.meaning.specs.Fraction.{Fraction, _=ᶠ_, roundUp}
 use Rattle.meaning.specs.Plan.{Plan, sumOf, intervals, rows, budgetOf}
-use Rattle.meaning.specs.Curve.{Corner, Curve, raw, others, sumOfSmaller, EnvelopeOf, Envelope}
-use Rattle.meaning.specs.Placement.{Part, shares, PartsOf, total, Answered, GreatestStall, AnsweredAt}
+use Rattle.meaning.specs.Curve.{Curve, raw, others, EnvelopeOf}
+use Rattle.meaning.specs.Placement.{Part, shares, PartsOf, total, GreatestStall, AnsweredAt}
 use Rattle.laws.specs.Order.{le-or-lt}
 use Rattle.laws.specs.Shape.{Concave, first-on}
 use Rattle.laws.specs.Raw.{raw-rises, raw-below, smaller-none}
 use Rattle.laws.specs.Stack.{envelope-exists}
 use Rattle.laws.specs.Fractions.{round-up-same}
-use Rattle.laws.specs.Indexed.{listFrom, sumFrom, sum-same}
-use Rattle.laws.specs.Filling.{Pick, Order, Walk, walk, fill}
+use Rattle.laws.specs.Indexed.{listFrom, sumFrom}
+use Rattle.laws.specs.Filling.{Pick, Order, walk, fill}
 use Rattle.laws.specs.Filled.{stallOf}
 use Rattle.laws.specs.Answering.{walkStall, filled-answered, filled-stall, filled-proper, walk-proper}
 use Rattle.laws.specs.Merging.{none, within, within-inside, within-after, orderTo, order-to}
-use Rattle.laws.specs.Judging.{All, all-at, SoundPlan, SoundCore}
-use Rattle.laws.specs.Values.{WholeRows, plan-whole, row-concave}
+use Rattle.laws.specs.Judging.{all-at, SoundPlan, SoundCore}
+use Rattle.laws.specs.Values.{plan-whole, row-concave}
 
 -- as many shares as intervals
 pub shares-length : (w : ℕ) (ls : List ℕ) → length (shares w ls) ≡ length ls
@@ -68,7 +68,7 @@ module _ (p : Plan) (core : ℕ) (sound : SoundPlan p) where
   inside-rows i h = subst (λ (n : ℕ). i < n) (sound .rowsCount) h
 
   -- the curve of every interval is concave
-  pub curves-concave : (curve : ℕ → Curve) → CurvesOf p core curve → (i : ℕ) → Concave (within 0 (intervals p) curve i)
+  curves-concave : (curve : ℕ → Curve) → CurvesOf p core curve → (i : ℕ) → Concave (within 0 (intervals p) curve i)
   curves-concave curve env i =
       ⊎-elim
       (λ past. subst Concave (sym (within-after 0 (intervals p) i curve past)) none-concave)
@@ -116,9 +116,7 @@ module _ (p : Plan) (core : ℕ) (sound : SoundPlan p) where
   module _ (budgets : SoundCore p core) (curve : ℕ → Curve) (env : CurvesOf p core curve) (o : List Pick)
       (order : Order (within 0 (intervals p) curve) o) (w requests : ℕ) (share : ℕ → ℕ)
       (given : (i : ℕ) → i < intervals p → share i ≡ getD (shares w (p .lengths)) i 0) where
-    curves : ℕ → Curve
-    curves = within 0 (intervals p) curve
-
+    -- the intervals as parts, each with its share and its curve
     parts : List Part
     parts = listFrom 0 (intervals p) (λ j. record { share = share j; curve = within 0 (intervals p) curve j })
 
@@ -242,6 +240,7 @@ module _ (p : Plan) (core : ℕ) (sound : SoundPlan p) (budgets : SoundCore p co
       envelope-exists (raw (p .perPeriod) (getD (rows p) i []) core) (budgetOf core (getD (rows p) i []))
       (raw-rises (p .perPeriod) (getD (rows p) i []) core (row-whole p core sound i here)) .1
 
+  -- the envelope of each interval, and no segment where there is no interval
   curveFor : ℕ → Curve
   curveFor i = chosen i (le-or-lt (intervals p) i)
 

@@ -2,20 +2,20 @@
 use mathlib.Core.Path.{_≡_, refl, sym, ap, _∙_, subst}
 use mathlib.Core.Logic.{_⊎_, inl, inr, ⊎-elim}
 use mathlib.Core.List.{List, [], _∷_}
-use Prim.Native.Nat.{ℕ, zero, suc, _+_, _-_, _*_, _≤_, _<_, zero-le}
-use native.Mathlib.Nat.{le-refl, le-trans, le-of-lt, le-of-eq, lt-irrefl, le-add-right, zero-mul, add-sub-of-le, lt-of-not-le, not-le-of-lt}
+use Prim.Native.Nat.{ℕ, _+_, _-_, _*_, _≤_, _<_, zero-le}
+use native.Mathlib.Nat.{le-refl, le-of-eq, le-add-right}
 use native.Mathlib.Omega.{arith}
 use borrow.Author.Tests.{eq-eqb, ne-eqb, le-leb, lt-leb}
 use Rattle.meaning.specs.Curve.{Corner, Curve, Rising, Falling}
 use Rattle.meaning.specs.Placement.{Part}
 use Rattle.laws.specs.Order.{le-or-lt, eq-or-ne}
-use Rattle.laws.specs.Shape.{Climbing, Concave}
-use Rattle.laws.specs.Price.{Passed, Along, Tight}
+use Rattle.laws.specs.Shape.{Concave}
+use Rattle.laws.specs.Price.{Along, Tight}
 use Rattle.laws.specs.Passing.{passed-rising}
 use Rattle.laws.specs.Certificate.{Certificate}
-use Rattle.laws.specs.Stage.{Stage, At, Beyond, Ahead, Steep, part, excessAt, stage-tight, corner-certificate, segment-certificate}
-use Rattle.laws.specs.Indexed.{sumFrom, sum-same, sum-change, sum-linear}
-use Rattle.laws.specs.Filling.{Pick, steppedFrom, advance, FirstIs, Picked, Next, Order, levelRise, levelRun, levelAt, Reached, Follows, Walk, walk, raised, more, fill, passed-map, passed-falling, beyond-follows, along-heads, picked-run, picked-steep, pass, follows, follows-end, advance-same, advance-other, gained}
+use Rattle.laws.specs.Stage.{Stage, At, Ahead, excessAt, stage-tight, corner-certificate, segment-certificate}
+use Rattle.laws.specs.Indexed.{sumFrom, sum-change, sum-linear}
+use Rattle.laws.specs.Filling.{Pick, steppedFrom, advance, Nothing, next-below, advance-nothing, Picked, Next, Order, levelRise, levelRun, levelAt, Reached, Follows, Walk, walk, raised, more, fill, passed-map, passed-falling, beyond-follows, along-heads, picked-run, picked-steep, pass, follows, follows-end, advance-same, advance-other, gained}
 
 -- a segment where the requests run out: filled past its lower end
 stop-certificate : (s : Pick) (w left : ℕ) (c : Curve) (t : Corner) (rest : List Corner)
@@ -51,10 +51,6 @@ stop-certificate s w left c t (b ∷ bs) at picked fits =
     (picked-steep s t b (picked .0) (picked .1))
     (subst (λ (n : ℕ). left ≤ w * n) (sym (gained (t .rate) (b .rate) (s .run) (picked .0))) fits)
 
--- what is picked is there
-picked-some : (s : Pick) (t : Corner) (rest : List Corner) → Picked s t rest → rest ≡ [] → ⊥
-picked-some s t rest picked none = subst (λ (cs : List Corner). Picked s t cs) none picked
-
 -- the corner after a picked segment
 picked-rate : (s : Pick) (w : ℕ) (t : Corner) (rest : List Corner)
     → Picked s t rest
@@ -70,7 +66,7 @@ picked-stall s w t (b ∷ bs) picked = omega (arith, ap (λ (n : ℕ). w * n) (p
 
 module _ (n : ℕ) (share : ℕ → ℕ) (curve : ℕ → Curve) (sound : (i : ℕ) → Concave (curve i)) where
   -- interval i as a part of the plan
-  abbrev pub partAt : ℕ → Part
+  abbrev partAt : ℕ → Part
   partAt i = record { share = share i; curve = curve i }
 
   -- interval i filled up to a corner
@@ -187,22 +183,8 @@ module _ (n : ℕ) (share : ℕ → ℕ) (curve : ℕ → Curve) (sound : (i : �
       }
 
   -- beyond the last interval nothing is left to fill
-  abbrev pub Ends : (ℕ → Curve) → Type 0
-  Ends now = (i : ℕ) → n ≤ i → now i .rest ≡ []
-
-  picked-inside : (now : ℕ → Curve) (s : Pick) → Ends now → Next now s → s .interval < n
-  picked-inside now s ends next =
-      ⊎-elim
-      (λ past.
-      absurd
-      (picked-some
-      s
-      (now (s .interval) .first)
-      (now (s .interval) .rest)
-      (next .picked)
-      (ends (s .interval) past)))
-      (λ inside. inside)
-      (le-or-lt n (s .interval))
+  abbrev Ends : (ℕ → Curve) → Type 0
+  Ends now = Nothing (λ i. n ≤ i) now
 
   more-same : (k c : ℕ) (x : ℕ → ℕ) → more k c x k ≡ x k + c
   more-same k c x = rw (eq-eqb k k refl)
@@ -257,7 +239,7 @@ module _ (n : ℕ) (share : ℕ → ℕ) (curve : ℕ → Curve) (sound : (i : �
       let at = at-stop now s reached next in
       let tight : (i : ℕ) → Tight (s .rise) (s .run) (excessAt (s .rise) (s .run) (now i .first)) (now i .first) =
       λ i. stage-tight (s .rise) (s .run) (s .interval) i (stageAt now i) (at i) in
-      let sums = more-sum (s .interval) requests x (picked-inside now s ends next) in
+      let sums = more-sum (s .interval) requests x (next-below n now s ends next) in
       record {
         last = s .interval;
         excess = λ i. excessAt (s .rise) (s .run) (now i .first);
@@ -308,7 +290,7 @@ module _ (n : ℕ) (share : ℕ → ℕ) (curve : ℕ → Curve) (sound : (i : �
       (advance (s .interval) now)
       (next-run now s reached next)
       (le-refl 1)
-      (follows-end s n (picked-inside now s ends next))
+      (follows-end s n (next-below n now s ends next))
       (pass curve now s reached next)
   reached-next now s (s' ∷ o) reached next ends order =
       let falls = now-falls (s .rise) (s .run) (s .interval) now reached (s .interval) in
@@ -371,13 +353,6 @@ module _ (n : ℕ) (share : ℕ → ℕ) (curve : ℕ → Curve) (sound : (i : �
       ∙ picked-stall s (share k) (now k .first) (now k .rest) (next .picked))
       (λ j other. ap (λ (c : Curve). share j * c .first .stall) (advance-other k j now other))
 
-  ends-next : (now : ℕ → Curve) (s : Pick) → Ends now → s .interval < n → Ends (advance (s .interval) now)
-  ends-next now s ends inside i past =
-      ap
-      (λ (c : Curve). c .rest)
-      (advance-other (s .interval) i now (λ e. lt-irrefl n (omega (arith, inside, past, e))))
-      ∙ ends i past
-
   -- a segment is filled whole, and the filling goes on
   further : (now : ℕ → Curve) (s : Pick) (requests : ℕ) (x y : ℕ → ℕ) (w : Walk)
       → Next now s
@@ -423,7 +398,7 @@ module _ (n : ℕ) (share : ℕ → ℕ) (curve : ℕ → Curve) (sound : (i : �
   filled (s ∷ o) now requests x reached order ends placed =
       let k = s .interval in
       let cap = share k * s .run in
-      let inside = picked-inside now s ends (order .0) in
+      let inside = next-below n now s ends (order .0) in
       ⊎-elim
       (λ fits. rw (le-leb requests cap fits) (stop now s requests x reached (order .0) ends placed fits))
       (λ enough.
@@ -446,6 +421,6 @@ module _ (n : ℕ) (share : ℕ → ℕ) (curve : ℕ → Curve) (sound : (i : �
       (more k cap x)
       (reached-next now s o reached (order .0) ends (order .1))
       (order .1)
-      (ends-next now s ends inside)
+      (advance-nothing (λ i. n ≤ i) (s .interval) now ends)
       (placed-next now s x (order .0) placed))))
       (le-or-lt requests cap)

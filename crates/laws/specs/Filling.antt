@@ -1,20 +1,18 @@
 -- Filling by falling slope, ties to the lower interval: it gives the answered placement and its stall.
 use mathlib.Core.Path.{_≡_, refl, sym, ap, _∙_, subst, subst₂}
-use mathlib.Core.Bool.{Bool, true, false, cond}
-use mathlib.Core.Logic.{_⊎_, inl, inr, ⊎-elim}
+use mathlib.Core.Bool.{cond}
+use mathlib.Core.Logic.{⊎-elim}
 use mathlib.Core.List.{List, [], _∷_}
-use Prim.Native.Nat.{ℕ, zero, suc, _+_, _-_, _*_, _≤_, _<_}
-use native.Mathlib.Nat.{le-refl, le-trans, le-of-lt, le-of-eq, lt-irrefl, lt-of-not-le, not-le-of-lt, mul-le-mul-left, mul-le-mul-right, mul-lt-mul-of-pos-left, mul-lt-mul-of-pos-right, lt-of-mul-lt-mul-right, le-of-mul-le-mul-right, eq-or-lt-of-le, zero-mul, add-sub-of-le, not-suc-le-zero, ne-of-lt}
+use Prim.Native.Nat.{ℕ, _+_, _-_, _*_, _≤_, _<_}
+use native.Mathlib.Nat.{le-of-lt, lt-irrefl, mul-le-mul-left, mul-le-mul-right, mul-lt-mul-of-pos-left, mul-lt-mul-of-pos-right, lt-of-mul-lt-mul-right, le-of-mul-le-mul-right, eq-or-lt-of-le, ne-of-lt}
 use native.Mathlib.Omega.{arith}
 use lib.Dec.{eqb, leb}
-use borrow.Author.Tests.{eq-eqb, ne-eqb, le-leb, lt-leb}
-use Rattle.meaning.specs.Fraction.{Fraction, _<ᶠ_}
-use Rattle.meaning.specs.Curve.{Corner, Curve, Rising, Falling, slope}
+use borrow.Author.Tests.{eq-eqb, ne-eqb}
+use Rattle.meaning.specs.Curve.{Corner, Curve, Rising, Falling}
+use Rattle.laws.specs.Shape.{falling-rest}
 use Rattle.laws.specs.Order.{le-or-lt, eq-or-ne}
-use Rattle.laws.specs.Shape.{Climbing, Concave}
 use Rattle.laws.specs.Price.{Passed, here, step, Along}
-use Rattle.laws.specs.Passing.{passed-rising, passed-climbing}
-use Rattle.laws.specs.Stage.{Steep, Steeper, Beyond, Ahead, Stage, At}
+use Rattle.laws.specs.Stage.{Steep, Beyond, Ahead}
 
 -- a segment in the order of filling: its interval, counted from 0, its run of rates and its rise of stall
 pub record Pick : Type 0 where
@@ -51,15 +49,17 @@ abbrev pub Order : (ℕ → Curve) → List Pick → Type 0
 Order now [] = (i : ℕ) → now i .rest ≡ []
 Order now (s ∷ o) = Next now s × Order (advance (s .interval) now) o
 
--- the price, and the interval, of the next segment; where none is left, price 0 after all n intervals
+-- the rise of the next segment, which is the price with its run; where none is left, price 0
 abbrev pub levelRise : List Pick → ℕ
 levelRise [] = 0
 levelRise (s ∷ o) = s .rise
 
+-- the run of the next segment; where none is left, 1
 abbrev pub levelRun : List Pick → ℕ
 levelRun [] = 1
 levelRun (s ∷ o) = s .run
 
+-- the interval of the next segment; where none is left, the one after all n
 abbrev pub levelAt : ℕ → List Pick → ℕ
 levelAt n [] = n
 levelAt n (s ∷ o) = s .interval
@@ -69,6 +69,7 @@ abbrev pub Reached : ℕ → ℕ → ℕ → (ℕ → Curve) → (ℕ → Curve)
 Reached p d k curve now =
     (i : ℕ) → Passed (Beyond p d k i) (curve i .first) (curve i .rest) (now i .first) (now i .rest)
 
+-- a curve that has passed some corners passes one more
 pub passed-more : {R : Corner → Corner → Type 0} {a t b : Corner} {cs rest : List Corner}
     → Passed R a cs t (b ∷ rest)
     → R t b
@@ -76,6 +77,7 @@ pub passed-more : {R : Corner → Corner → Type 0} {a t b : Corner} {cs rest :
 passed-more here r = step r here
 passed-more (step h way) r = step h (passed-more way r)
 
+-- what follows from R along rising rates holds along the corners passed
 pub passed-map : {R S : Corner → Corner → Type 0} (a t : Corner) (cs rest : List Corner)
     → Rising a cs
     → ((b c : Corner) → b .rate < c .rate → R b c → S b c)
@@ -135,6 +137,7 @@ beyond-follows p d k p' d' k' i a b positive positive' follows up h =
           (eq-or-lt-of-le (follows .lower)),
     )
 
+-- what was added is the difference
 pub gained : (x y n : ℕ) → y ≡ x + n → y - x ≡ n
 gained x y n e = omega (arith, e)
 
@@ -162,44 +165,73 @@ pass-head s a t cs (b ∷ bs) way picked =
     way
     (picked-steep s t b (picked .0) (picked .1), λ after. absurd (lt-irrefl (s .interval) after))
 
+-- an advance in interval k steps its curve
 pub advance-same : (k : ℕ) (now : ℕ → Curve) → advance k now k ≡ steppedFrom (now k .first) (now k .rest)
 advance-same k now = rw (eq-eqb k k refl)
 
+-- an advance in interval k leaves every other curve as it is
 pub advance-other : (k i : ℕ) (now : ℕ → Curve) → (i ≡ k → ⊥) → advance k now i ≡ now i
 advance-other k i now other = rw (ne-eqb i k other)
+
+-- what holds of every curve, and of that of interval k a step on, holds after an advance in interval k
+pub advance-all : (P : ℕ → Curve → Type 0) (k : ℕ) (now : ℕ → Curve)
+    → P k (steppedFrom (now k .first) (now k .rest))
+    → ((i : ℕ) → P i (now i))
+    → (i : ℕ)
+    → P i (advance k now i)
+advance-all P k now stepped all i =
+    ⊎-elim
+    (λ e.
+    subst
+    (λ (j : ℕ). P j (advance k now j))
+    (sym e)
+    (subst (λ (c : Curve). P k c) (sym (advance-same k now)) stepped))
+    (λ other. subst (λ (c : Curve). P i c) (sym (advance-other k i now other)) (all i))
+    (eq-or-ne i k)
+
+-- nothing is left of the intervals where P holds
+abbrev pub Nothing : (ℕ → Type 0) → (ℕ → Curve) → Type 0
+Nothing P now = (i : ℕ) → P i → now i .rest ≡ []
+
+stepped-none : (a : Corner) (cs : List Corner) → cs ≡ [] → steppedFrom a cs .rest ≡ []
+stepped-none a cs none = subst (λ (bs : List Corner). steppedFrom a bs .rest ≡ []) (sym none) refl
+
+-- nor is anything after an advance
+pub advance-nothing : (P : ℕ → Type 0) (k : ℕ) (now : ℕ → Curve) → Nothing P now → Nothing P (advance k now)
+advance-nothing P k now nothing =
+    advance-all (λ i c. P i → c .rest ≡ []) k now (λ held. stepped-none (now k .first) (now k .rest) (nothing k held)) nothing
+
+-- the next segment is of no interval where nothing is left
+pub next-not : (P : ℕ → Type 0) (now : ℕ → Curve) (s : Pick) → Nothing P now → Next now s → P (s .interval) → ⊥
+next-not P now s nothing next held =
+    subst
+    (λ (cs : List Corner). Picked s (now (s .interval) .first) cs)
+    (nothing (s .interval) held)
+    (next .picked)
+
+-- where nothing is left from n on, the next segment is below n
+pub next-below : (n : ℕ) (now : ℕ → Curve) (s : Pick) → Nothing (λ i. n ≤ i) now → Next now s → s .interval < n
+next-below n now s nothing next =
+    ⊎-elim
+    (λ past. absurd (next-not (λ i. n ≤ i) now s nothing next past))
+    (λ inside. inside)
+    (le-or-lt n (s .interval))
 
 -- the next segment is passed
 pub pass : (curve now : ℕ → Curve) (s : Pick)
     → Reached (s .rise) (s .run) (s .interval) curve now
     → Next now s
     → Reached (s .rise) (s .run) (s .interval) curve (advance (s .interval) now)
-pass curve now s reached next i =
+pass curve now s reached next =
     let k = s .interval in
-    let Way : ℕ → Curve → Type 0 =
-    λ j c. Passed (Beyond (s .rise) (s .run) k j) (curve j .first) (curve j .rest) (c .first) (c .rest) in
-    ⊎-elim
-    (λ e.
-    subst
-    (λ (j : ℕ). Way j (advance k now j))
-    (sym e)
-    (subst
-    (λ (c : Curve). Way k c)
-    (sym (advance-same k now))
-    (pass-head
-    s
-    (curve k .first)
-    (now k .first)
-    (curve k .rest)
-    (now k .rest)
-    (reached k)
-    (next .picked))))
-    (λ other. subst (λ (c : Curve). Way i c) (sym (advance-other k i now other)) (reached i))
-    (eq-or-ne i k)
+    advance-all
+    (λ j c. Passed (Beyond (s .rise) (s .run) k j) (curve j .first) (curve j .rest) (c .first) (c .rest))
+    k
+    now
+    (pass-head s (curve k .first) (now k .first) (curve k .rest) (now k .rest) (reached k) (next .picked))
+    reached
 
-falling-rest : (a b : Corner) (cs : List Corner) → Falling a (b ∷ cs) → Falling b cs
-falling-rest a b [] h = tt
-falling-rest a b (c ∷ cs) h = h .1
-
+-- what is left after passing corners has falling slopes
 pub passed-falling : {R : Corner → Corner → Type 0} (a t : Corner) (cs rest : List Corner) → Falling a cs → Passed R a cs t rest → Falling t rest
 passed-falling a t cs rest falls here = falls
 passed-falling a t cs rest falls (step {b = b} {cs = bs} h way) =
@@ -211,6 +243,7 @@ less-steep p d x y u v positive run shallow falls =
     lt-of-mul-lt-mul-right x
     (omega (arith, mul-lt-mul-of-pos-left falls positive, mul-le-mul-right u shallow))
 
+-- where slopes fall and the first segment is not filled before the one of slope p/d in interval k, none of those left is
 pub along-heads : (p d k i : ℕ) (a : Corner) (cs : List Corner)
     → 1 ≤ d
     → Rising a cs

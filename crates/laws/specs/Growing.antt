@@ -1,26 +1,24 @@
 -- S grows with the shares and with the requests.
-use mathlib.Core.Path.{_≡_, refl, sym, ap, _∙_, subst, subst₂}
-use mathlib.Core.Logic.{⊎-elim}
+use mathlib.Core.Path.{_≡_, sym, subst, subst₂}
 use mathlib.Core.List.{List, [], _∷_}
-use Prim.Native.Nat.{ℕ, zero, suc, _+_, _-_, _*_, _≤_, _<_, min}
-use native.Mathlib.Nat.{le-refl, le-trans, mul-le-mul-right, mul-le-mul-left}
+use Prim.Native.Nat.{ℕ, _-_, _*_, _≤_}
+use native.Mathlib.Nat.{le-refl, le-trans, mul-le-mul-right}
 use native.Mathlib.Omega.{arith}
-use Rattle.meaning.specs.Fraction.{Fraction, Proper, whole, _≤ᶠ_, _+ᶠ_}
-use Rattle.meaning.specs.Plan.{Plan, sumOf, rows, budgetOf}
-use Rattle.meaning.specs.Curve.{Curve, limit, raw, EnvelopeOf}
-use Rattle.meaning.specs.Placement.{Part, shares, PartsOf, Fitting, Placement, total, Greatest, GreatestStall}
+use Rattle.meaning.specs.Fraction.{Fraction, _≤ᶠ_}
+use Rattle.meaning.specs.Plan.{Plan, rows, budgetOf, All}
+use Rattle.meaning.specs.Curve.{Curve, limit, raw}
+use Rattle.meaning.specs.Placement.{Part, shares, PartsOf, Fitting, total, Greatest, GreatestStall}
 use Rattle.laws.specs.Shape.{Concave}
 use Rattle.laws.specs.Raw.{raw-rises}
 use Rattle.laws.specs.Unique.{envelope-unique}
 use Rattle.laws.specs.Fractions.{le-trans-fraction, sum-le}
-use Rattle.laws.specs.Passing.{stall-proper}
 use Rattle.laws.specs.Certificate.{partStall}
 use Rattle.laws.specs.Tangent.{stall-grows-periods}
-use Rattle.laws.specs.Judging.{All, SoundPlan}
+use Rattle.laws.specs.Judging.{SoundPlan}
 use Rattle.laws.specs.Values.{WholeRows, plan-whole, parts-concave, parts-proper}
 
 -- the same curves with shares that are no smaller
-abbrev pub NoSmaller : List Part → List Part → Type 0
+abbrev NoSmaller : List Part → List Part → Type 0
 NoSmaller [] [] = Unit {0}
 NoSmaller [] (q ∷ qs) = ⊥
 NoSmaller (p ∷ ps) [] = ⊥
@@ -87,7 +85,7 @@ total-grows (p ∷ ps) (q ∷ qs) (x ∷ xs) sound g h =
     (total-grows ps qs xs (sound .1) (g .2) (h .1))
 
 -- S grows with the shares and with the requests
-pub greatest-grows : (ps qs : List Part) (r s : ℕ) (xs ys : List ℕ)
+greatest-grows : (ps qs : List Part) (r s : ℕ) (xs ys : List ℕ)
     → All (λ (p : Part). Concave (p .curve)) ps
     → All (λ (p : Part). Concave (p .curve)) qs
     → NoSmaller ps qs

@@ -1,5 +1,5 @@
 -- Lists and sums of what is given for each index.
-use mathlib.Core.Path.{_≡_, refl, sym, ap, ap₂, _∙_}
+use mathlib.Core.Path.{_≡_, refl, ap, ap₂}
 use mathlib.Core.Logic.{⊎-elim}
 use mathlib.Core.List.{List, [], _∷_}
 use Prim.Native.Nat.{ℕ, zero, suc, _+_, _*_, _≤_, _<_}
@@ -31,7 +31,7 @@ sum-list i zero f = refl
 sum-list i (suc n) f = ap (λ (m : ℕ). f i + m) (sum-list (suc i) n f)
 
 -- what is the same at each index sums to the same
-pub sum-same : (i n : ℕ) (f g : ℕ → ℕ) → ((j : ℕ) → i ≤ j → f j ≡ g j) → sumFrom i n f ≡ sumFrom i n g
+sum-same : (i n : ℕ) (f g : ℕ → ℕ) → ((j : ℕ) → i ≤ j → f j ≡ g j) → sumFrom i n f ≡ sumFrom i n g
 unfolding sumFrom
 sum-same i zero f g same = refl
 sum-same i (suc n) f g same =

@@ -11,15 +11,10 @@ use lib.ListN.{length, getD, take, drop, length-take, length-drop}
 use lib.Seq.{drop-drop, drop-cons, getD-take, getD-drop}
 use lib.Dec.{leb, ltb, eqb}
 use borrow.Author.Tests.{leb-true, ltb-false, eqb-true, eqb-false, not-false, le-leb, lt-leb, lt-ltb, le-ltb, eq-eqb, ne-eqb}
-use Rattle.meaning.specs.Plan.{Plan, sumOf, intervals, periods, rowsOf, rows, budgetOf}
+use Rattle.meaning.specs.Plan.{Plan, sumOf, intervals, periods, rowsOf, rows, budgetOf, All}
 use Rattle.meaning.specs.Plan.{mostCores, mostPerPeriod, mostIntervals, mostPeriods}
 use Rattle.meaning.specs.Refusals.{refusedIf, _before_, outside, coresRefusal, perPeriodRefusal, intervalsOutside, intervalRefusal, intervalsRefusal, planRefusal, withoutBudget, coreRefusal}
 use Rattle.laws.specs.Order.{le-or-lt}
-
--- each member of a list has the property
-abbrev pub All : {A : Type 0} → (A → Type 0) → List A → Type 0
-All P [] = Unit {0}
-All P (a ∷ l) = P a × All P l
 
 -- so the member at an index has it
 pub all-at : {A : Type 0} (P : A → Type 0) (l : List A) (d : A) (i : ℕ) → All P l → i < length l → P (getD l i d)

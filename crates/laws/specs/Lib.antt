@@ -26,6 +26,7 @@ pub mod Answers
 pub mod Questions
 pub mod Runs
 pub mod Claims
+pub mod ClaimedTerms
 pub mod Outliving
 pub mod Longer
 pub mod Decimals
@@ -34,9 +35,14 @@ pub mod Masks
 pub mod Reading
 pub mod Terms
 pub mod SoundFiles
+pub mod RefusedFiles
 pub mod PlanFiles
 pub mod Bytes
 pub mod Rows
 pub mod Fronts
 pub mod ReadWrites
 pub mod WrittenReads
+pub mod Listings
+pub mod Refusing
+pub mod RoundTrips
+pub mod Answered

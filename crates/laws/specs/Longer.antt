@@ -2,42 +2,35 @@
 use mathlib.Core.Path.{_≡_, refl, sym, ap, ap₂, _∙_, subst, subst₂}
 use mathlib.Core.Logic.{inl, inr}
 use mathlib.Core.List.{List, [], _∷_, _++_}
-use Prim.Native.Nat.{ℕ, _+_, _-_, _*_, _≤_, zero-le, min}
+use Prim.Native.Nat.{ℕ, _-_, _*_, _≤_, zero-le, min}
 use native.Mathlib.Nat.{le-refl, le-trans, le-of-eq, suc-mul, zero-mul}
 use native.Mathlib.Omega.{arith}
-use lib.ListN.{length, take, drop, replicate, length-drop}
+use lib.ListN.{length, take, drop, length-drop}
 use lib.Seq.{take-append-le, drop-append-le}
 use Rattle.meaning.specs.Fraction.{Fraction, Proper, whole, _≤ᶠ_, _=ᶠ_, _+ᶠ_}
-use Rattle.meaning.specs.Plan.{Plan, Workload, sumOf, intervals, periods, rowsOf, rows, budgetOf}
+use Rattle.meaning.specs.Plan.{Plan, Workload, sumOf, intervals, periods, rowsOf, rows, budgetOf, All}
 use Rattle.meaning.specs.Curve.{limit, raw, stallFrom}
 use Rattle.meaning.specs.Placement.{Part, shares, PartsOf, Parts, Fitting, Placement, total, Greatest, NotAhead, Answered, GreatestStall, AnsweredAt}
 use Rattle.meaning.specs.Span.{work, Holds, NextTerm}
 use Rattle.meaning.specs.Refusals.{planRefusal, coreRefusal}
 use Rattle.meaning.specs.Promises.{SpanFigures, SpanGiven, SpanAnswer}
+use Rattle.meaning.specs.Again.{longer, zerosFor}
 use Rattle.laws.specs.Shape.{Concave}
+use Rattle.laws.specs.Masks.{sum-append}
 use Rattle.laws.specs.Raw.{raw-rises}
 use Rattle.laws.specs.Stack.{envelope-exists}
 use Rattle.laws.specs.Fractions.{round-up-same, same-of-le, same-trans, le-trans-fraction, sum-le}
 use Rattle.laws.specs.Passing.{stall-at-first}
 use Rattle.laws.specs.Certificate.{partStall}
-use Rattle.laws.specs.Judging.{All, SoundPlan, SoundCore, sound-plan, sound-core}
+use Rattle.laws.specs.Judging.{SoundPlan, SoundCore, sound-plan, sound-core}
 use Rattle.laws.specs.Values.{WholeRows, plan-whole, parts-concave, parts-proper, stall-value-proper, stall-value-same}
 use Rattle.laws.specs.Existing.{greatest-exists}
 use Rattle.laws.specs.Searching.{needed, needed-rises, stall-proper-at}
 use Rattle.laws.specs.Questions.{SoundSpan, span-answer-unique}
 use Rattle.laws.specs.Outliving.{holds-under, same-given, answer-given, given-answer}
 
--- the plan with these intervals and their budgets added behind
-abbrev pub longer : Plan → List ℕ → List ℕ → Plan
-longer p ls bs =
-    record { cores = p .cores; perPeriod = p .perPeriod; lengths = p .lengths ++ ls; budgets = p .budgets ++ bs }
-
--- a 0 for each interval
-abbrev pub zerosFor : List ℕ → List ℕ
-zerosFor ls = replicate (length ls) 0
-
 -- nothing is left of W behind the plan's own periods: the intervals added have a share of 0
-pub shares-behind : (n : ℕ) (ls ls' : List ℕ) → n ≤ sumOf ls → shares n (ls ++ ls') ≡ shares n ls ++ zerosFor ls'
+shares-behind : (n : ℕ) (ls ls' : List ℕ) → n ≤ sumOf ls → shares n (ls ++ ls') ≡ shares n ls ++ zerosFor ls'
 unfolding shares
 shares-behind n [] [] le = refl
 shares-behind n [] (l ∷ ls') le =
@@ -60,18 +53,13 @@ rows-behind m (l ∷ ls) bs ls' bs' count =
     (ap (rowsOf m (ls ++ ls')) (drop-append-le m bs bs' enough) ∙ rows-behind m ls (drop m bs) ls' bs' rest)
 
 -- the rows of the longer plan are those of the plan followed by those of the intervals added
-pub rows-longer : (p : Plan) (ls bs : List ℕ) → SoundPlan p → rows (longer p ls bs) ≡ rows p ++ rowsOf (p .cores) ls bs
+rows-longer : (p : Plan) (ls bs : List ℕ) → SoundPlan p → rows (longer p ls bs) ≡ rows p ++ rowsOf (p .cores) ls bs
 rows-longer p ls bs sound = rows-behind (p .cores) (p .lengths) (p .budgets) ls bs (sound .count)
 
 -- fractions of one value have sums of one value
 same-added : (f g h k : Fraction) → f =ᶠ g → h =ᶠ k → f +ᶠ h =ᶠ g +ᶠ k
 same-added f g h k fg hk =
     same-of-le (f +ᶠ h) (g +ᶠ k) (sum-le f h g k (le-of-eq fg) (le-of-eq hk)) (sum-le g k f h (le-of-eq (sym fg)) (le-of-eq (sym hk)))
-
--- a sum goes on with what is added behind
-sum-behind : (xs ys : List ℕ) → sumOf (xs ++ ys) ≡ sumOf xs + sumOf ys
-sum-behind [] ys = omega arith
-sum-behind (x ∷ xs) ys = omega (arith, sum-behind xs ys)
 
 -- what each of two lists together has, each of the second has
 all-behind : {A : Type 0} (P : A → Type 0) (l l' : List A) → All P (l ++ l') → All P l'
@@ -213,7 +201,7 @@ module _ (ps qs : List Part) (zs : List ℕ) (behind : Behind ps qs zs) where
 
   -- and no requests
   same-sum : (xs : List ℕ) → sumOf (xs ++ zs) ≡ sumOf xs
-  same-sum xs = omega (arith, sum-behind xs zs, idle-sum qs zs (behind .idle) (behind .none))
+  same-sum xs = omega (arith, sum-append xs zs, idle-sum qs zs (behind .idle) (behind .none))
 
   -- a placement goes on with zs
   placed-behind : (requests : ℕ) (xs : List ℕ) → Placement ps requests xs → Placement (ps ++ qs) requests (xs ++ zs)
@@ -360,7 +348,7 @@ module _ (p : Plan) (ls bs : List ℕ) (core : ℕ) (sound : SoundPlan p) (more 
         }
 
   -- the answered placement goes on with zeros, and its stall is the same
-  pub longer-answered : (requests n : ℕ) (xs : List ℕ) (s : ℕ)
+  longer-answered : (requests n : ℕ) (xs : List ℕ) (s : ℕ)
       → n ≤ periods p
       → AnsweredAt p core requests n xs s
       → AnsweredAt (longer p ls bs) core requests n (xs ++ zerosFor ls) s
@@ -384,7 +372,7 @@ module _ (p : Plan) (ls bs : List ℕ) (core : ℕ) (sound : SoundPlan p) (more 
       }
 
   -- S(W) has the same value in the longer plan
-  pub longer-stall : (requests n : ℕ) (f : Fraction)
+  longer-stall : (requests n : ℕ) (f : Fraction)
       → n ≤ periods p
       → GreatestStall p core requests n f
       → (g : Fraction) × GreatestStall (longer p ls bs) core requests n g × (g =ᶠ f)
@@ -408,7 +396,7 @@ module _ (p : Plan) (ls bs : List ℕ) (core : ℕ) (sound : SoundPlan p) (more 
       )
 
   -- and the other way round
-  pub shorter-stall : (requests n : ℕ) (g : Fraction)
+  shorter-stall : (requests n : ℕ) (g : Fraction)
       → SoundCore p core
       → n ≤ periods p
       → GreatestStall (longer p ls bs) core requests n g
@@ -466,7 +454,7 @@ module _ (p : Plan) (ls bs : List ℕ) (w : Workload) (sound : SoundPlan p) (mor
       holds-under (longer p ls bs) p w w n (own .0) more refl (le-refl (work w)) (own .1) h (le-of-eq (own .2))
 
   -- intervals added behind leave the span the same, and its stall and rounds; the placement goes on with zeros
-  pub longer-span : (a : SpanFigures) (xs : List ℕ)
+  longer-span : (a : SpanFigures) (xs : List ℕ)
       → SpanGiven p w a xs
       → SpanGiven (longer p ls bs) w a (xs ++ zerosFor ls)
   longer-span a xs given =
@@ -510,7 +498,7 @@ asked-longer p ls bs w room room' a b xs ys first none plan core lent again =
       fewComputing = s .fewComputing;
       fewRequests = s .fewRequests;
       positive = s .positive;
-      inPlan = omega (arith, s .inPlan, sum-behind (p .lengths) ls);
+      inPlan = omega (arith, s .inPlan, sum-append (p .lengths) ls);
       enoughRoom = lent;
     } in
     span-answer-unique (longer p ls bs) w room' b a ys (xs ++ zerosFor ls) again

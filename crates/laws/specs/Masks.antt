@@ -17,7 +17,7 @@ use Rattle.meaning.specs.Plan.{sumOf}
 use Rattle.meaning.specs.PlanFile.{tabulate, listedAt, listedZero, twoBytes, maskOf, listedOf}
 
 -- the ones of a mask are those of its bits from k on and of those below
-pub ones-split : (n k : ℕ) → ones n ≡ ones (n / 2 ^ k) + ones (n % 2 ^ k)
+ones-split : (n k : ℕ) → ones n ≡ ones (n / 2 ^ k) + ones (n % 2 ^ k)
 ones-split n k = ap ones (sym (split n k)) ∙ ones-cat k (n / 2 ^ k) (n % 2 ^ k) (mod-lt n (pow-pos k))
 
 -- below a bit that is set there are fewer ones than in the mask
@@ -81,10 +81,11 @@ lowest b = go (eqb b 0)
     go false = omega arith
 
 module _ (b n : ℕ) (h : b < 2) where
-  -- the bits of a number above its lowest, and the lowest
+  -- the bits of a number above its lowest
   pub above : (b + 2 * n) / 2 ≡ n
   above = omega arith
 
+  -- the lowest bit of a number
   pub below : (b + 2 * n) % 2 ≡ b
   below = omega arith
 
@@ -106,7 +107,7 @@ mask-lt [] = omega arith
 mask-lt (b ∷ bs) = omega (arith, lowest b, mask-lt bs, pow-suc 2 (length bs))
 
 -- the bits of a mask below k are the mask of the first k cores
-pub mask-take : (k : ℕ) (row : List ℕ) → maskOf row % 2 ^ k ≡ maskOf (take k row)
+mask-take : (k : ℕ) (row : List ℕ) → maskOf row % 2 ^ k ≡ maskOf (take k row)
 unfolding maskOf
 mask-take zero row = mod-one (maskOf row)
 mask-take (suc k) [] = zero-mod (2 ^ suc k)
@@ -126,7 +127,7 @@ listed-count (b ∷ bs) =
     go false = omega arith
 
 -- two lists of budgets are listed one behind the other
-pub listed-append : (xs ys : List ℕ) → listedOf (xs ++ ys) ≡ listedOf xs ++ listedOf ys
+listed-append : (xs ys : List ℕ) → listedOf (xs ++ ys) ≡ listedOf xs ++ listedOf ys
 unfolding listedOf
 listed-append [] ys = refl
 listed-append (x ∷ xs) ys =

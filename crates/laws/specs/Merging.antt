@@ -1,34 +1,36 @@
 -- Orders of segments: of one interval, of two groups of intervals merged, and of all.
 use mathlib.Core.Path.{_≡_, refl, sym, ap, _∙_, subst, fun-ext}
-use mathlib.Core.Bool.{Bool, true, false, cond}
-use mathlib.Core.Logic.{_⊎_, inl, inr, ⊎-elim}
+use mathlib.Core.Bool.{Bool, cond}
+use mathlib.Core.Logic.{⊎-elim}
 use mathlib.Core.List.{List, [], _∷_}
-use Prim.Native.Nat.{ℕ, zero, suc, _+_, _-_, _*_, _≤_, _<_, zero-le}
-use native.Mathlib.Nat.{le-refl, le-trans, le-of-lt, lt-irrefl, lt-of-lt-of-le, lt-of-le-of-lt, mul-le-mul-left, mul-le-mul-right, mul-lt-mul-of-pos-left, mul-lt-mul-of-pos-right, le-of-mul-le-mul-right, lt-of-mul-lt-mul-right, add-sub-of-le, le-suc}
+use Prim.Native.Nat.{ℕ, zero, suc, _-_, _*_, _≤_, _<_, zero-le}
+use native.Mathlib.Nat.{le-refl, le-trans, le-of-lt, lt-irrefl, lt-of-lt-of-le, mul-le-mul-left, mul-le-mul-right, mul-lt-mul-of-pos-right, le-of-mul-le-mul-right, lt-of-mul-lt-mul-right, add-sub-of-le, le-suc}
 use native.Mathlib.Omega.{arith}
 use lib.Dec.{eqb, leb, ltb}
 use lib.Arith.{lt-of-le-ne}
 use borrow.Author.Tests.{eq-eqb, ne-eqb, le-leb, lt-leb, lt-ltb, le-ltb}
-use Rattle.meaning.specs.Curve.{Corner, Curve, Rising, Falling}
+use Rattle.meaning.specs.Curve.{Corner, Curve, Rising}
 use Rattle.laws.specs.Order.{le-or-lt, eq-or-ne}
 use Rattle.laws.specs.Shape.{Climbing, Concave}
 use Rattle.laws.specs.Stage.{Ahead, Shallow, Shallower}
-use Rattle.laws.specs.Filling.{Pick, steppedFrom, advance, advance-same, advance-other, FirstIs, Picked, Next, Order, picked-run}
+use Rattle.laws.specs.Filling.{Pick, steppedFrom, advance, advance-all, Nothing, next-not, next-below, advance-nothing, FirstIs, Picked, Next, Order, picked-run}
 
 -- the second of two segments is no steeper than the first, by cross-multiplying
 abbrev pub notSteeper : Pick → Pick → Bool
 notSteeper s t = leb (t .rise * s .run) (s .rise * t .run)
 
--- two orders merged: the steeper first, and of equal ones that of the first order
+-- the segment s set into an order before the first that is no steeper; `later` merges what is behind it
 unfoldable pub weave : Pick → (List Pick → List Pick) → List Pick → List Pick
 weave s later [] = s ∷ later []
 weave s later (t ∷ ts) = cond (notSteeper s t) (s ∷ later (t ∷ ts)) (t ∷ weave s later ts)
 
+-- two orders merged: the steeper first, and of equal ones that of the first order
 unfoldable pub merged : List Pick → List Pick → List Pick
 unfolding weave
 merged [] ts = ts
 merged (s ∷ ss) ts = weave s (merged ss) ts
 
+-- merged with nothing, an order is as it was
 pub merged-none : (ss : List Pick) → merged ss [] ≡ ss
 unfolding merged weave
 merged-none [] = refl
@@ -49,7 +51,7 @@ unfolding merged weave
 merged-second s t ss ts lt = rw (lt-leb _ _ lt)
 
 -- the intervals below mid, and those from mid on
-abbrev pub joined : ℕ → (ℕ → Curve) → (ℕ → Curve) → ℕ → Curve
+abbrev joined : ℕ → (ℕ → Curve) → (ℕ → Curve) → ℕ → Curve
 joined mid low high i = cond (ltb i mid) (low i) (high i)
 
 joined-low : (mid i : ℕ) (low high : ℕ → Curve) → i < mid → joined mid low high i ≡ low i
@@ -58,28 +60,11 @@ joined-low mid i low high h = rw (lt-ltb i mid h)
 joined-high : (mid i : ℕ) (low high : ℕ → Curve) → mid ≤ i → joined mid low high i ≡ high i
 joined-high mid i low high h = rw (le-ltb i mid h)
 
--- nothing is left from mid on, or below it
-abbrev pub Below : ℕ → (ℕ → Curve) → Type 0
-Below mid now = (i : ℕ) → mid ≤ i → now i .rest ≡ []
-
-abbrev pub From : ℕ → (ℕ → Curve) → Type 0
-From mid now = (i : ℕ) → i < mid → now i .rest ≡ []
-
-picked-some : (s : Pick) (t : Corner) (rest : List Corner) → Picked s t rest → rest ≡ [] → ⊥
-picked-some s t rest picked none = subst (λ (cs : List Corner). Picked s t cs) none picked
-
-next-below : (mid : ℕ) (now : ℕ → Curve) (s : Pick) → Below mid now → Next now s → s .interval < mid
-next-below mid now s below next =
-    ⊎-elim
-    (λ past. absurd (picked-some s _ (now (s .interval) .rest) (next .picked) (below (s .interval) past)))
-    (λ inside. inside)
-    (le-or-lt mid (s .interval))
-
-next-from : (mid : ℕ) (now : ℕ → Curve) (s : Pick) → From mid now → Next now s → mid ≤ s .interval
-next-from mid now s from next =
+next-from : (mid : ℕ) (now : ℕ → Curve) (s : Pick) → Nothing (λ i. i < mid) now → Next now s → mid ≤ s .interval
+next-from mid now s nothing next =
     ⊎-elim
     (λ past. past)
-    (λ inside. absurd (picked-some s _ (now (s .interval) .rest) (next .picked) (from (s .interval) inside)))
+    (λ inside. absurd (next-not (λ i. i < mid) now s nothing next inside))
     (le-or-lt mid (s .interval))
 
 first-none : (R : Corner → Corner → Type 0) (a : Corner) (cs : List Corner) → cs ≡ [] → FirstIs R a cs
@@ -100,36 +85,9 @@ stepped-up : (a : Corner) (cs : List Corner) → Rising a cs → Rising (stepped
 stepped-up a [] up = tt
 stepped-up a (b ∷ cs) up = up .1
 
-stepped-none : (a : Corner) (cs : List Corner) → cs ≡ [] → steppedFrom a cs .rest ≡ []
-stepped-none a cs none = subst (λ (bs : List Corner). steppedFrom a bs .rest ≡ []) (sym none) refl
-
--- what holds of every interval and of its curve without the first segment holds after an advance
-advance-all : (P : ℕ → Curve → Type 0) (k : ℕ) (now : ℕ → Curve)
-    → ((i : ℕ) → P i (now i))
-    → ((c : Curve) → P k c → P k (steppedFrom (c .first) (c .rest)))
-    → (i : ℕ)
-    → P i (advance k now i)
-advance-all P k now all turn i =
-    ⊎-elim
-    (λ e.
-    subst
-    (λ (j : ℕ). P j (advance k now j))
-    (sym e)
-    (subst (λ (c : Curve). P k c) (sym (advance-same k now)) (turn (now k) (all k))))
-    (λ other. subst (λ (c : Curve). P i c) (sym (advance-other k i now other)) (all i))
-    (eq-or-ne i k)
-
 advance-up : (k : ℕ) (now : ℕ → Curve) → Up now → Up (advance k now)
 advance-up k now up =
-    advance-all (λ i c. Rising (c .first) (c .rest)) k now up (λ c h. stepped-up (c .first) (c .rest) h)
-
-advance-below : (mid k : ℕ) (now : ℕ → Curve) → Below mid now → Below mid (advance k now)
-advance-below mid k now below =
-    advance-all (λ i c. mid ≤ i → c .rest ≡ []) k now below (λ c h past. stepped-none (c .first) (c .rest) (h past))
-
-advance-from : (mid k : ℕ) (now : ℕ → Curve) → From mid now → From mid (advance k now)
-advance-from mid k now from =
-    advance-all (λ i c. i < mid → c .rest ≡ []) k now from (λ c h inside. stepped-none (c .first) (c .rest) (h inside))
+    advance-all (λ i c. Rising (c .first) (c .rest)) k now (stepped-up (now k .first) (now k .rest) (up k)) up
 
 -- an advance in one group leaves the other as it is
 joined-advance-low : (mid k : ℕ) (low high : ℕ → Curve) → k < mid → advance k (joined mid low high) ≡ joined mid (advance k low) high
@@ -163,68 +121,6 @@ joined-all P mid low high lows highs i =
     (λ past. subst (λ (c : Curve). P i c) (sym (joined-high mid i low high past)) (highs i past))
     (λ before. subst (λ (c : Curve). P i c) (sym (joined-low mid i low high before)) (lows i before))
     (le-or-lt mid i)
-
--- the next segment of the first group is next of all, where the second group has none steeper
-next-low : (mid : ℕ) (low high : ℕ → Curve) (s : Pick)
-    → Below mid low
-    → Next low s
-    → ((i : ℕ) → FirstIs (Shallow (s .rise) (s .run)) (high i .first) (high i .rest))
-    → Next (joined mid low high) s
-next-low mid low high s below next others =
-    let inside = next-below mid low s below next in
-    record {
-      picked =
-          subst
-          (λ (c : Curve). Picked s (c .first) (c .rest))
-          (sym (joined-low mid (s .interval) low high inside))
-          (next .picked);
-      heads =
-          joined-all
-          (λ i c. FirstIs (Ahead (s .rise) (s .run) (s .interval) i) (c .first) (c .rest))
-          mid
-          low
-          high
-          (λ i before. next .heads i)
-          (λ i past.
-          first-map
-          (Shallow (s .rise) (s .run))
-          (Ahead (s .rise) (s .run) (s .interval) i)
-          (high i .first)
-          (high i .rest)
-          (λ b h. (h, λ before. absurd (lt-irrefl mid (omega (arith, before, past, inside)))))
-          (others i));
-    }
-
--- the next segment of the second group is next of all, where the first group has only less steep ones
-next-high : (mid : ℕ) (low high : ℕ → Curve) (t : Pick)
-    → From mid high
-    → Next high t
-    → ((i : ℕ) → FirstIs (Shallower (t .rise) (t .run)) (low i .first) (low i .rest))
-    → Next (joined mid low high) t
-next-high mid low high t from next others =
-    let outside = next-from mid high t from next in
-    record {
-      picked =
-          subst
-          (λ (c : Curve). Picked t (c .first) (c .rest))
-          (sym (joined-high mid (t .interval) low high outside))
-          (next .picked);
-      heads =
-          joined-all
-          (λ i c. FirstIs (Ahead (t .rise) (t .run) (t .interval) i) (c .first) (c .rest))
-          mid
-          low
-          high
-          (λ i before.
-          first-map
-          (Shallower (t .rise) (t .run))
-          (Ahead (t .rise) (t .run) (t .interval) i)
-          (low i .first)
-          (low i .rest)
-          (λ b h. (le-of-lt h, λ lower. h))
-          (others i))
-          (λ i past. next .heads i);
-    }
 
 -- no steeper than t, and t no steeper than s
 shallow-trans : (s t : Pick) (run rise : ℕ)
@@ -299,49 +195,87 @@ all-shallower low s t up next lt i =
     (h .0))
     (next .heads i)
 
--- a group of intervals below mid, and one from mid on
-pub record Low (mid : ℕ) (now : ℕ → Curve) : Type 0 where
-  pub up : Up now
-  pub below : Below mid now
+-- a group of intervals: its rates rise, and nothing is left where P holds
+record Group (P : ℕ → Type 0) (now : ℕ → Curve) : Type 0 where
+  up : Up now
+  nothing : Nothing P now
 
-pub record High (mid : ℕ) (now : ℕ → Curve) : Type 0 where
-  pub up : Up now
-  pub from : From mid now
+-- a group of intervals below mid
+abbrev Low : ℕ → (ℕ → Curve) → Type 0
+Low mid now = Group (λ i. mid ≤ i) now
 
-low-advance : (mid k : ℕ) (now : ℕ → Curve) → Low mid now → Low mid (advance k now)
-low-advance mid k now g = record { up = advance-up k now (g .up); below = advance-below mid k now (g .below) }
+-- a group of intervals from mid on
+abbrev High : ℕ → (ℕ → Curve) → Type 0
+High mid now = Group (λ i. i < mid) now
 
-high-advance : (mid k : ℕ) (now : ℕ → Curve) → High mid now → High mid (advance k now)
-high-advance mid k now g = record { up = advance-up k now (g .up); from = advance-from mid k now (g .from) }
+group-advance : (P : ℕ → Type 0) (k : ℕ) (now : ℕ → Curve) → Group P now → Group P (advance k now)
+group-advance P k now g = record { up = advance-up k now (g .up); nothing = advance-nothing P k now (g .nothing) }
 
--- a step in the first group, and in the second
+-- a step in one of two groups, whose next segment has none of either group ahead of it
+step-joined : (mid : ℕ) (low high one later : ℕ → Curve) (s : Pick) (o : List Pick)
+    → joined mid low high (s .interval) ≡ one (s .interval)
+    → advance (s .interval) (joined mid low high) ≡ later
+    → Next one s
+    → ((i : ℕ) → i < mid → FirstIs (Ahead (s .rise) (s .run) (s .interval) i) (low i .first) (low i .rest))
+    → ((i : ℕ) → mid ≤ i → FirstIs (Ahead (s .rise) (s .run) (s .interval) i) (high i .first) (high i .rest))
+    → Order later o
+    → Order (joined mid low high) (s ∷ o)
+step-joined mid low high one later s o same advanced next lows highs order = (
+  record {
+    picked = subst (λ (c : Curve). Picked s (c .first) (c .rest)) (sym same) (next .picked);
+    heads =
+        joined-all
+        (λ i c. FirstIs (Ahead (s .rise) (s .run) (s .interval) i) (c .first) (c .rest))
+        mid
+        low
+        high
+        lows
+        highs;
+  },
+  subst (λ (now : ℕ → Curve). Order now o) (sym advanced) order,
+)
+
+-- a step in the first group, where the second has none steeper
 step-low : (mid : ℕ) (low high : ℕ → Curve) (s : Pick) (o : List Pick)
     → Low mid low
     → Next low s
     → ((i : ℕ) → FirstIs (Shallow (s .rise) (s .run)) (high i .first) (high i .rest))
     → Order (joined mid (advance (s .interval) low) high) o
     → Order (joined mid low high) (s ∷ o)
-step-low mid low high s o g next others order = (
-  next-low mid low high s (g .below) next others,
-  subst
-      (λ (now : ℕ → Curve). Order now o)
-      (sym (joined-advance-low mid (s .interval) low high (next-below mid low s (g .below) next)))
-      order,
-)
+step-low mid low high s o g next others order =
+    let k = s .interval in
+    let inside = next-below mid low s (g .nothing) next in
+    step-joined mid low high low (joined mid (advance k low) high) s o
+    (joined-low mid k low high inside)
+    (joined-advance-low mid k low high inside)
+    next
+    (λ i before. next .heads i)
+    (λ i past.
+    first-map (Shallow (s .rise) (s .run)) (Ahead (s .rise) (s .run) k i) (high i .first) (high i .rest)
+    (λ b h. (h, λ before. absurd (lt-irrefl mid (omega (arith, before, past, inside)))))
+    (others i))
+    order
 
+-- a step in the second group, where the first has only less steep ones
 step-high : (mid : ℕ) (low high : ℕ → Curve) (t : Pick) (o : List Pick)
     → High mid high
     → Next high t
     → ((i : ℕ) → FirstIs (Shallower (t .rise) (t .run)) (low i .first) (low i .rest))
     → Order (joined mid low (advance (t .interval) high)) o
     → Order (joined mid low high) (t ∷ o)
-step-high mid low high t o g next others order = (
-  next-high mid low high t (g .from) next others,
-  subst
-      (λ (now : ℕ → Curve). Order now o)
-      (sym (joined-advance-high mid (t .interval) low high (next-from mid high t (g .from) next)))
-      order,
-)
+step-high mid low high t o g next others order =
+    let k = t .interval in
+    let outside = next-from mid high t (g .nothing) next in
+    step-joined mid low high high (joined mid low (advance k high)) t o
+    (joined-high mid k low high outside)
+    (joined-advance-high mid k low high outside)
+    next
+    (λ i before.
+    first-map (Shallower (t .rise) (t .run)) (Ahead (t .rise) (t .run) k i) (low i .first) (low i .rest)
+    (λ b h. (le-of-lt h, λ lower. h))
+    (others i))
+    (λ i past. next .heads i)
+    order
 
 -- with nothing left in the first group
 merge-done : (mid : ℕ) (ts : List Pick) (low high : ℕ → Curve)
@@ -354,7 +288,7 @@ merge-done mid [] low high done g order =
 merge-done mid (t ∷ ts) low high done g order =
     step-high mid low high t ts g (order .0)
     (λ i. first-none (Shallower (t .rise) (t .run)) (low i .first) (low i .rest) (done i))
-    (merge-done mid ts low (advance (t .interval) high) done (high-advance mid (t .interval) high g) (order .1))
+    (merge-done mid ts low (advance (t .interval) high) done (group-advance (λ i. i < mid) (t .interval) high g) (order .1))
 
 -- with a next segment in the first group
 merge-next : (mid : ℕ) (s : Pick) (ss : List Pick) (low : ℕ → Curve)
@@ -390,7 +324,7 @@ merge-next mid s ss low g next later (t ∷ ts) high h order =
     (sym (merged-second s t ss ts lt))
     (step-high mid low high t (merged (s ∷ ss) ts) h (order .0)
     (all-shallower low s t (g .up) next lt)
-    (merge-next mid s ss low g next later ts (advance (t .interval) high) (high-advance mid (t .interval) high h) (order .1))))
+    (merge-next mid s ss low g next later ts (advance (t .interval) high) (group-advance (λ i. i < mid) (t .interval) high h) (order .1))))
     (le-or-lt (t .rise * s .run) (s .rise * t .run))
 
 merged-empty : (ts : List Pick) → merged [] ts ≡ ts
@@ -398,7 +332,7 @@ unfolding merged
 merged-empty ts = refl
 
 -- two orders merged are the order of both groups
-pub order-merged : (mid : ℕ) (ss ts : List Pick) (low high : ℕ → Curve)
+order-merged : (mid : ℕ) (ss ts : List Pick) (low high : ℕ → Curve)
     → Low mid low
     → High mid high
     → Order low ss
@@ -411,7 +345,7 @@ order-merged mid [] ts low high g h done order =
     (merge-done mid ts low high done h order)
 order-merged mid (s ∷ ss) ts low high g h order order' =
     merge-next mid s ss low g (order .0)
-    (λ us next k o. order-merged mid ss us (advance (s .interval) low) next (low-advance mid (s .interval) low g) k (order .1) o)
+    (λ us next k o. order-merged mid ss us (advance (s .interval) low) next (group-advance (λ i. mid ≤ i) (s .interval) low g) k (order .1) o)
     ts
     high
     h
@@ -425,15 +359,15 @@ none = record { first = record { rate = 0; stall = 0 }; rest = [] }
 abbrev pub within : ℕ → ℕ → (ℕ → Curve) → ℕ → Curve
 within low high curve i = cond (leb low i) (cond (ltb i high) (curve i) none) none
 
--- inside the group
+-- inside the group its curves
 pub within-inside : (low high i : ℕ) (curve : ℕ → Curve) → low ≤ i → i < high → within low high curve i ≡ curve i
 within-inside low high i curve from to = rw (le-leb low i from, lt-ltb i high to)
 
--- before it
+-- before the group nothing
 pub within-before : (low high i : ℕ) (curve : ℕ → Curve) → i < low → within low high curve i ≡ none
 within-before low high i curve before = rw (lt-leb low i before)
 
--- after it
+-- after the group nothing
 pub within-after : (low high i : ℕ) (curve : ℕ → Curve) → high ≤ i → within low high curve i ≡ none
 within-after low high i curve past =
     ⊎-elim
@@ -442,7 +376,7 @@ within-after low high i curve past =
     (le-or-lt low i)
 
 -- what holds of every curve and of none holds of the intervals from low up to high
-pub within-all : (P : Curve → Type 0) (low high : ℕ) (curve : ℕ → Curve)
+within-all : (P : Curve → Type 0) (low high : ℕ) (curve : ℕ → Curve)
     → ((i : ℕ) → P (curve i))
     → P none
     → (i : ℕ)
@@ -458,7 +392,7 @@ within-all P low high curve all nothing i =
     (le-or-lt low i)
 
 -- two neighbouring groups are one
-pub within-joined : (low mid high : ℕ) (curve : ℕ → Curve)
+within-joined : (low mid high : ℕ) (curve : ℕ → Curve)
     → low ≤ mid
     → mid ≤ high
     → joined mid (within low mid curve) (within mid high curve) ≡ within low high curve
@@ -491,11 +425,11 @@ order-joined low mid high curve ss ts first second up before after =
     (order-merged mid ss ts (within low mid curve) (within mid high curve)
     (record {
       up = within-up low mid curve up;
-      below = λ i past. ap (λ (c : Curve). c .rest) (within-after low mid i curve past);
+      nothing = λ i past. ap (λ (c : Curve). c .rest) (within-after low mid i curve past);
     })
     (record {
       up = within-up mid high curve up;
-      from = λ i inside. ap (λ (c : Curve). c .rest) (within-before mid high i curve inside);
+      nothing = λ i inside. ap (λ (c : Curve). c .rest) (within-before mid high i curve inside);
     })
     before
     after)
@@ -528,8 +462,8 @@ only-all P k c here nothing i =
     (λ other. subst (λ (d : Curve). P i d) (sym (only-other k i c other)) (nothing i))
     (eq-or-ne i k)
 
--- they are an order of that interval
-pub order-one : (k : ℕ) (a : Corner) (cs : List Corner)
+-- the segments of one interval are an order of it
+order-one : (k : ℕ) (a : Corner) (cs : List Corner)
     → Rising a cs
     → Climbing a cs
     → Order (only k (record { first = a; rest = cs })) (picksFrom k a cs)
@@ -559,7 +493,7 @@ order-one k a (b ∷ cs) up climb =
     )
 
 -- a group of one interval
-pub within-one : (k : ℕ) (curve : ℕ → Curve) → within k (suc k) curve ≡ only k (curve k)
+within-one : (k : ℕ) (curve : ℕ → Curve) → within k (suc k) curve ≡ only k (curve k)
 within-one k curve =
     fun-ext λ i.
     ⊎-elim
@@ -592,7 +526,7 @@ unfoldable pub orderTo : ℕ → (ℕ → Curve) → List Pick
 orderTo zero curve = []
 orderTo (suc n) curve = merged (orderTo n curve) (picksFrom n (curve n .first) (curve n .rest))
 
--- it is one
+-- it is an order of all their segments
 pub order-to : (n : ℕ) (curve : ℕ → Curve) → ((i : ℕ) → Concave (curve i)) → Order (within 0 n curve) (orderTo n curve)
 unfolding orderTo
 order-to zero curve sound = λ i. ap (λ (c : Curve). c .rest) (within-after 0 0 i curve zero-le)

@@ -12,6 +12,7 @@ use Rattle.meaning.specs.Placement.{GreatestStall, AnsweredAt}
 use Rattle.meaning.specs.Span.{work, StallAt, Holds, IsSpan, NoSpan, firstTerm, NextTerm, SettlesFrom}
 use Rattle.meaning.specs.Refusals.{spanRefusal}
 use Rattle.meaning.specs.Promises.{Judged, SpanFigures, noSpanFigures, SpanGiven, SpanAnswer}
+use Rattle.meaning.specs.Again.{NoMoreWork, until}
 use Rattle.laws.specs.Order.{le-or-lt}
 use Rattle.laws.specs.Fractions.{le-trans-fraction, sum-le, sum-proper}
 use Rattle.laws.specs.Judging.{both-zero, not-refused, not-outside, SoundPlan, SoundCore, plan-sound, core-sound}
@@ -48,13 +49,6 @@ holds-under p q w v n g sound slots less stall h le =
           (h .enough));
     }
 
--- v has no more work than w: the same core, no more computing and no more requests; its horizon is no earlier
-pub record NoMoreWork (v w : Workload) : Type 0 where
-  pub core : v .core ≡ w .core
-  pub computing : v .computing ≤ w .computing
-  pub requests : v .requests ≤ w .requests
-  pub horizon : w .horizon ≤ v .horizon
-
 module _ (p : Plan) (w v : Workload) (sound : SoundPlan p) (budgets : SoundCore p (w .core)) (less : NoMoreWork v w) where
   same-core : SoundCore p (v .core)
   same-core = subst (SoundCore p) (sym (less .core)) budgets
@@ -69,7 +63,7 @@ module _ (p : Plan) (w v : Workload) (sound : SoundPlan p) (budgets : SoundCore 
       (stall-grows p (v .core) sound (v .requests) (w .requests) n n (found .0) (h .stall) (less .requests) (le-refl n) (found .1) larger)
 
   -- with less work a span is given, and it is no larger
-  pub less-work : (n : ℕ) → 1 ≤ v .computing → IsSpan p w n → (m : ℕ) × IsSpan p v m × (m ≤ n)
+  less-work : (n : ℕ) → 1 ≤ v .computing → IsSpan p w n → (m : ℕ) × IsSpan p v m × (m ≤ n)
   less-work n some span =
       let holds = holds-less n (span .holds) in
       ⊎-elim
@@ -127,10 +121,6 @@ module _ (p q : Plan) (w v : Workload) (alike : Alike p q w v) where
             (same-search (a .rounds) (firstTerm p w) (a .span) (given .rounds));
       }
 
--- the same workload up to another horizon
-abbrev pub until : Workload → ℕ → Workload
-until w h = record { core = w .core; computing = w .computing; requests = w .requests; horizon = h }
-
 -- which periods hold the work does not depend on the horizon
 holds-until : (p : Plan) (w : Workload) (h k n : ℕ) → Holds p (until w h) n → Holds p (until w k) n
 holds-until p w h k n holds = record { stall = holds .stall; greatest = holds .greatest; enough = holds .enough }
@@ -146,7 +136,7 @@ later-alike p w h later =
     }
 
 -- a later horizon leaves the span the same, and its stall, rounds and placement
-pub later-horizon : (p : Plan) (w : Workload) (h : ℕ) (a : SpanFigures) (xs : List ℕ)
+later-horizon : (p : Plan) (w : Workload) (h : ℕ) (a : SpanFigures) (xs : List ℕ)
     → w .horizon ≤ h
     → SpanGiven p w a xs
     → SpanGiven p (until w h) a xs
@@ -154,7 +144,7 @@ later-horizon p w h a xs later given =
     same-given p p w (until w h) (later-alike p w h later) a xs xs (given .placement) given
 
 -- a sound span question is not refused before the search
-pub span-sound : (p : Plan) (w : Workload) (room : ℕ) → SoundSpan p w room → spanRefusal p w room ≡ 0
+span-sound : (p : Plan) (w : Workload) (room : ℕ) → SoundSpan p w room → spanRefusal p w room ≡ 0
 unfolding spanRefusal
 span-sound p w room s =
     both-zero (plan-sound p (s .plan))

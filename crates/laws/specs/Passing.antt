@@ -1,12 +1,12 @@
 -- The stall of an interval read from a later corner on: what was passed does not change its value.
-use mathlib.Core.Path.{_≡_, refl, sym, ap, _∙_, subst}
+use mathlib.Core.Path.{_≡_, refl, sym, subst}
 use mathlib.Core.Logic.{⊎-elim}
 use mathlib.Core.List.{List, [], _∷_}
-use Prim.Native.Nat.{ℕ, zero, suc, _+_, _-_, _*_, _≤_, _<_}
-use native.Mathlib.Nat.{le-refl, le-trans, le-of-lt, le-antisymm, add-sub-of-le, sub-self, zero-mul, mul-le-mul-left}
+use Prim.Native.Nat.{ℕ, _+_, _-_, _*_, _≤_}
+use native.Mathlib.Nat.{le-refl, le-trans, le-of-lt, le-antisymm, add-sub-of-le, sub-self, mul-le-mul-left}
 use native.Mathlib.Omega.{arith}
 use borrow.Author.Tests.{le-leb, lt-leb}
-use Rattle.meaning.specs.Fraction.{Fraction, Proper, whole, _=ᶠ_}
+use Rattle.meaning.specs.Fraction.{Proper, whole, _=ᶠ_}
 use Rattle.meaning.specs.Curve.{Corner, lastOf, onSegment, Rising, stallFrom}
 use Rattle.laws.specs.Order.{le-or-lt}
 use Rattle.laws.specs.Shape.{Climbing}
@@ -82,7 +82,7 @@ skip w x a b cs up climb from =
     (le-or-lt x (w * b .rate))
 
 -- passing corners only raises the rate
-pub passed-rate : {R : Corner → Corner → Type 0} (a t : Corner) (cs rest : List Corner)
+passed-rate : {R : Corner → Corner → Type 0} (a t : Corner) (cs rest : List Corner)
     → Rising a cs
     → Passed R a cs t rest
     → a .rate ≤ t .rate
@@ -108,15 +108,17 @@ passed-same w x a t cs rest up climb (step {b = b} {cs = bs} h way) from =
     (skip w x a b bs up (climb .0) reached)
     (passed-same w x b t bs rest (up .1) (climb .1) way from)
 
--- what is left after passing corners rises, climbs, and ends where the curve ends
+-- what is left after passing corners has rising rates
 pub passed-rising : {R : Corner → Corner → Type 0} (a t : Corner) (cs rest : List Corner) → Rising a cs → Passed R a cs t rest → Rising t rest
 passed-rising a t cs rest up here = up
 passed-rising a t cs rest up (step {b = b} {cs = bs} h way) = passed-rising b t bs rest (up .1) way
 
+-- what is left after passing corners has stalls that do not fall
 pub passed-climbing : {R : Corner → Corner → Type 0} (a t : Corner) (cs rest : List Corner) → Climbing a cs → Passed R a cs t rest → Climbing t rest
 passed-climbing a t cs rest up here = up
 passed-climbing a t cs rest up (step {b = b} {cs = bs} h way) = passed-climbing b t bs rest (up .1) way
 
+-- what is left after passing corners ends where the curve ends
 pub passed-last : {R : Corner → Corner → Type 0} (a t : Corner) (cs rest : List Corner) → Passed R a cs t rest → lastOf a cs ≡ lastOf t rest
 passed-last a t cs rest here = refl
 passed-last a t cs rest (step {b = b} {cs = bs} h way) = passed-last b t bs rest way

@@ -10,11 +10,11 @@ use lib.Seq.{take-all, take-append-le, drop-append-le}
 use borrow.Author.Tests.{eq-eqb}
 use Rattle.meaning.specs.Plan.{Plan, sumOf, intervals, rowsOf, rows, mostCores, mostPerPeriod, mostIntervals, mostWorkloads}
 use Rattle.meaning.specs.Refusals.{_before_, intervalRefusal, intervalsRefusal, planRefusal}
-use Rattle.meaning.specs.PlanFile.{Reading, PlanFile, byteAt, twoAt, fourAt, budgetAt, rowAt, intervalFault, headPlan, withInterval, noWorkloads, readFile, fileOf, writeRefusal}
+use Rattle.meaning.specs.PlanFile.{Reading, PlanFile, byteAt, twoAt, fourAt, budgetAt, rowAt, intervalFault, headPlan, withInterval, noWorkloads, readFile, fileOf, writeRefusal, RightLists}
 use Rattle.meaning.specs.Promises.{ReadFigures, WriteFigures, Places, written, fits, ReadingPromise, SoundPromise, ReadPromise, WritePromise, Judged}
 use Rattle.laws.specs.Judging.{rows-count, both-zero, before-assoc, not-refused, not-outside, neither, interval-sound}
 use Rattle.laws.specs.Masks.{length-tabulate}
-use Rattle.laws.specs.Records.{SoundHead, sound-head, sound-interval-record, RightLists}
+use Rattle.laws.specs.Records.{SoundHead, sound-head, sound-interval-record}
 use Rattle.laws.specs.SoundFiles.{file-sound, withNext, intervals-behind, workloads-end}
 
 -- the longest accepted file has 5,642 bytes
@@ -68,7 +68,7 @@ nothing-later zero = refl
 nothing-later (suc a) = refl
 
 -- and is judged after the others
-pub refusal-append : (perPeriod soFar : ℕ) (lengths : List ℕ) (rs : List (List ℕ)) (l : ℕ) (row : List ℕ)
+refusal-append : (perPeriod soFar : ℕ) (lengths : List ℕ) (rs : List (List ℕ)) (l : ℕ) (row : List ℕ)
     → length rs ≡ length lengths
     → intervalsRefusal perPeriod soFar (lengths ++ (l ∷ [])) (rs ++ (row ∷ []))
     ≡ intervalsRefusal perPeriod soFar lengths rs before intervalRefusal perPeriod (soFar + sumOf lengths) l row
@@ -171,12 +171,13 @@ workload-read s p i at f here =
       horizons = length-append (f .workloads .horizons) (twoAt s (at + 14) ∷ []) ∙ ap (λ (n : ℕ). n + 1) (here .horizons);
     }
 
--- before any interval and any workload
+-- before any interval is read, the plan is that of the head
 pub none-read : (s : List ℕ) → PlanRead s 0 (headPlan s)
 unfolding rowsOf intervalsRefusal
 none-read s =
     record { cores = refl; slots = refl; count = refl; budgets = sym (zero-mul (byteAt s 4)); none = refl }
 
+-- before any workload is read, the lists are empty
 pub no-workload-read : (p : Plan) → WorkloadsRead p 0 (record { plan = p; workloads = noWorkloads })
 no-workload-read p = record { plan = refl; cores = refl; computing = refl; requests = refl; horizons = refl }
 

@@ -1,18 +1,15 @@
 -- A price p/d, with d at least 1, and a curve under it: what one interval, and one period, can stall at most.
-use mathlib.Core.Path.{_≡_, refl, sym, ap, _∙_, subst}
-use mathlib.Core.Bool.{Bool, true, false, cond}
-use mathlib.Core.Logic.{_⊎_, inl, inr, ⊎-elim}
+use mathlib.Core.Path.{_≡_, ap, _∙_, subst}
+use mathlib.Core.Logic.{⊎-elim}
 use mathlib.Core.List.{List, [], _∷_}
-use Prim.Native.Nat.{ℕ, zero, suc, _+_, _-_, _*_, _≤_, _<_}
-use native.Mathlib.Nat.{le-dest, le-intro, le-trans, le-of-lt, le-refl, add-sub-of-le, mul-le-mul-left, mul-le-mul-right, mul-lt-mul-of-pos-left, le-of-mul-le-mul-right, mul-pos, zero-lt-suc, lt-irrefl, lt-of-lt-of-le, eq-zero-or-pos, not-suc-le-zero, zero-mul, add-zero, le-antisymm}
+use Prim.Native.Nat.{ℕ, suc, _+_, _-_, _*_, _≤_, _<_}
+use native.Mathlib.Nat.{le-dest, le-intro, le-of-lt, add-sub-of-le, mul-le-mul-left, mul-le-mul-right, mul-lt-mul-of-pos-left, le-of-mul-le-mul-right, mul-pos, zero-lt-suc, lt-irrefl, lt-of-lt-of-le, eq-zero-or-pos, not-suc-le-zero, zero-mul, add-zero, le-antisymm}
 use native.Mathlib.Omega.{arith}
-use native.Mathlib.Decide.{decLe}
-use lib.Dec.{leb}
 use borrow.Author.Tests.{le-leb, lt-leb}
-use Rattle.meaning.specs.Fraction.{Fraction, whole}
-use Rattle.meaning.specs.Curve.{Corner, Curve, lastOf, limit, onSegment, OnRaw, Rising, Covering, stallFrom}
+use Rattle.meaning.specs.Fraction.{Fraction}
+use Rattle.meaning.specs.Curve.{Corner, lastOf, onSegment, OnRaw, Rising, Covering, stallFrom}
 use Rattle.laws.specs.Order.{le-or-lt}
-use Rattle.laws.specs.Shape.{Climbing, rate-le-last}
+use Rattle.laws.specs.Shape.{Climbing}
 
 -- the corners t and rest are reached from a and cs by passing only segments of which R holds
 pub data Passed (R : Corner → Corner → Type 0) : Corner → List Corner → Corner → List Corner → Type 0 where
@@ -25,7 +22,7 @@ Along R a [] = Unit {0}
 Along R a (b ∷ cs) = R a b × Along R b cs
 
 -- by how much a corner is under the line of the price with excess e
-abbrev pub Gap : ℕ → ℕ → ℕ → Corner → ℕ → Type 0
+abbrev Gap : ℕ → ℕ → ℕ → Corner → ℕ → Type 0
 Gap p d e a s = d * a .stall + s ≡ p * a .rate + e
 
 -- a corner is on or under the line
@@ -51,15 +48,15 @@ LooseAfter p d e [] = Unit {0}
 LooseAfter p d e (b ∷ cs) = Loose p d e b × LooseAfter p d e cs
 
 -- x requests in w periods stall at most what the price says: d·stall ≤ p·x + w·e
-abbrev pub Priced : ℕ → ℕ → ℕ → ℕ → ℕ → Fraction → Type 0
+abbrev Priced : ℕ → ℕ → ℕ → ℕ → ℕ → Fraction → Type 0
 Priced p d e w x f = d * f .num ≤ (p * x + w * e) * f .den
 
 -- they stall less
-abbrev pub PricedLess : ℕ → ℕ → ℕ → ℕ → ℕ → Fraction → Type 0
+abbrev PricedLess : ℕ → ℕ → ℕ → ℕ → ℕ → Fraction → Type 0
 PricedLess p d e w x f = d * f .num < (p * x + w * e) * f .den
 
 -- they stall just that
-abbrev pub PricedSame : ℕ → ℕ → ℕ → ℕ → ℕ → Fraction → Type 0
+abbrev PricedSame : ℕ → ℕ → ℕ → ℕ → ℕ → Fraction → Type 0
 PricedSame p d e w x f = d * f .num ≡ (p * x + w * e) * f .den
 
 -- a point of a segment is a mean of its ends: y of the w·k requests above the lower end, z still to come

@@ -1,9 +1,8 @@
 -- The questions of a plan: what holds where they are not refused, that each has an answer, and that two answers are the same.
-use mathlib.Core.Path.{_≡_, refl, sym, ap, ap₂, _∙_, subst}
-use mathlib.Core.Logic.{_⊎_, inl, inr, ⊎-elim}
-use mathlib.Core.List.{List, [], _∷_}
+use mathlib.Core.Path.{_≡_, refl, sym, ap, _∙_, subst}
+use mathlib.Core.Logic.{_⊎_, inl, inr}
+use mathlib.Core.List.{List, []}
 use Prim.Native.Nat.{ℕ, zero, suc, _+_, _≤_}
-use native.Mathlib.Nat.{le-trans}
 use lib.ListN.{length}
 use lib.Dec.{ltb}
 use borrow.Author.Tests.{ltb-false}
@@ -29,6 +28,7 @@ pub record SoundPlacement (p : Plan) (core requests n room : ℕ) : Type 0 where
   pub inPlan : n ≤ periods p
   pub enoughRoom : intervals p ≤ room
 
+-- a placement question without a refusal is sound
 pub sound-placement : (p : Plan) (core requests n room : ℕ) → placementRefusal p core requests n room ≡ 0 → SoundPlacement p core requests n room
 unfolding placementRefusal
 sound-placement p core requests n room e =
@@ -60,6 +60,7 @@ pub record SoundSpan (p : Plan) (w : Workload) (room : ℕ) : Type 0 where
   pub inPlan : w .horizon ≤ periods p
   pub enoughRoom : intervals p ≤ room
 
+-- a span question without a refusal before the search is sound
 pub sound-span : (p : Plan) (w : Workload) (room : ℕ) → spanRefusal p w room ≡ 0 → SoundSpan p w room
 unfolding spanRefusal
 sound-span p w room e =

@@ -10,13 +10,13 @@ use lib.ListN.{length, getD, take, drop, length-drop, List·getD-append}
 use lib.Seq.{take-add, drop-drop, take-all, drop-cons, drop-append-le}
 use lib.Count.{ones}
 use Rattle.meaning.specs.Plan.{Plan, rowsOf, rows, mostWorkloads}
-use Rattle.meaning.specs.PlanFile.{Reading, PlanFile, byteAt, twoAt, fourAt, tabulate, listedAt, budgetAt, rowAt, intervalFault, workloadFault, withInterval, noWorkloads, headPlan, twoBytes, fourBytes, recordOf, maskOf, listedOf, intervalRecords, workloadRecords, fileOf, readFile}
+use Rattle.meaning.specs.PlanFile.{Reading, PlanFile, byteAt, twoAt, fourAt, tabulate, listedAt, budgetAt, rowAt, intervalFault, workloadFault, withInterval, noWorkloads, headPlan, twoBytes, fourBytes, recordOf, maskOf, listedOf, intervalRecords, workloadRecords, fileOf, readFile, Bytes}
 use Rattle.laws.specs.Masks.{length-tabulate, listed-zero}
 use Rattle.laws.specs.Records.{SoundHead, SoundIntervalRecord, SoundWorkloadRecord, sound-head, sound-interval-record, sound-workload-record}
 use Rattle.laws.specs.Judging.{rows-count}
 use Rattle.laws.specs.SoundFiles.{file-sound, withNext, intervals-behind, workloads-end}
 use Rattle.laws.specs.PlanFiles.{rows-append, PlanRead, plan-read, none-read, WorkloadsRead, workload-read, no-workload-read}
-use Rattle.laws.specs.Bytes.{Bytes, byte-lt, headBytes, intervalBytes, interval-bytes, workloadBytes, two-made, four-made, bytes-at}
+use Rattle.laws.specs.Bytes.{byte-lt, headBytes, intervalBytes, interval-bytes, workloadBytes, two-made, four-made, bytes-at}
 use Rattle.laws.specs.Rows.{Listed, row-by, mask-row, listed-row, pairs}
 
 module _ (s : List ℕ) (bytes : Bytes s) where

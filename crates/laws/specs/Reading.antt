@@ -11,7 +11,7 @@ use Rattle.meaning.specs.Plan.{Plan}
 use Rattle.meaning.specs.PlanFile.{Reading, PlanFile, twoAt, headFault, intervalFault, workloadFault, byFault, headPlan, withInterval, withWorkload, readFile, readIntervals, readWorkloads}
 
 -- a fault that is given refuses the file
-pub by-fault : (n at : ℕ) (later : Reading) → 0 < n → byFault n at later ≡ Reading.refused n at
+by-fault : (n at : ℕ) (later : Reading) → 0 < n → byFault n at later ≡ Reading.refused n at
 by-fault zero at later h = absurd (omega arith)
 by-fault (suc n) at later h = refl
 

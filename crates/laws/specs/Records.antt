@@ -10,7 +10,7 @@ use lib.Count.{ones}
 use borrow.Author.Tests.{leb-false, ltb-false, eqb-true, not-false, lt-leb, le-ltb, eq-eqb, ne-eqb}
 use Rattle.meaning.specs.Plan.{Plan, sumOf, mostCores, mostPerPeriod, mostIntervals, mostWorkloads}
 use Rattle.meaning.specs.Refusals.{refusedIf, _before_, outside, coresRefusal, perPeriodRefusal, intervalsOutside, intervalRefusal}
-use Rattle.meaning.specs.PlanFile.{Workloads, listsWrong, byteAt, twoAt, rowAt, listedZero, recordFault, headFault, intervalFault, workloadFault}
+use Rattle.meaning.specs.PlanFile.{Workloads, listsWrong, byteAt, twoAt, rowAt, listedZero, recordFault, headFault, intervalFault, workloadFault, RightLists}
 use Rattle.laws.specs.Judging.{first-zero, second-zero, both-zero, not-broken, not-refused, or-first, or-second, neither, inside, not-outside, SoundInterval, sound-interval, interval-sound}
 
 -- a test that is not refused when it fails holds
@@ -52,7 +52,7 @@ sound-record s at kind tooMany lengthWrong e =
     }
 
 -- a sound record has no fault
-pub record-sound : (s : List ℕ) (at kind : ℕ) (tooMany lengthWrong : Bool)
+record-sound : (s : List ℕ) (at kind : ℕ) (tooMany lengthWrong : Bool)
     → SoundRecord s at kind tooMany lengthWrong
     → recordFault s at kind tooMany lengthWrong ≡ 0
 unfolding recordFault
@@ -62,6 +62,22 @@ record-sound s at kind tooMany lengthWrong r =
     (both-zero
     (not-unequal 21 (r .kind))
     (both-zero (not-refused 25 (r .few)) (both-zero (not-refused 22 (r .right)) (not-refused 20 (le-ltb _ _ (r .body))))))
+
+-- a record within the file, of its kind and with a body of just n bytes has no fault
+exact-record-sound : (s : List ℕ) (at kind n : ℕ)
+    → at + 4 + n ≤ length s
+    → twoAt s (at + 2) ≡ kind
+    → twoAt s at ≡ n
+    → recordFault s at kind false (not (eqb (twoAt s at) n)) ≡ 0
+exact-record-sound s at kind n within ofKind body =
+    record-sound s at kind false (not (eqb (twoAt s at) n))
+    (record {
+      start = omega (arith, within);
+      kind = ofKind;
+      few = refl;
+      right = ap not (eq-eqb _ _ body);
+      body = omega (arith, within, body);
+    })
 
 -- what is asked of the head
 pub record SoundHead (s : List ℕ) : Type 0 where
@@ -112,19 +128,7 @@ pub head-sound : (s : List ℕ) → SoundHead s → headFault s ≡ 0
 unfolding headFault
 head-sound s h =
     both-zero
-    (record-sound
-    s
-    0
-    1
-    false
-    (not (eqb (twoAt s 0) 6))
-    (record {
-      start = omega (arith, h .within);
-      kind = h .kind;
-      few = refl;
-      right = ap not (eq-eqb _ _ (h .body));
-      body = omega (arith, h .within, h .body);
-    }))
+    (exact-record-sound s 0 1 6 (h .within) (h .kind) (h .body))
     (both-zero
     (not-unequal 23 (h .zeroByte))
     (both-zero
@@ -182,12 +186,7 @@ interval-record-sound s at p r =
     let some : 4 ≤ n = omega (arith, r .body) in
     let within : outside 4 20 n ≡ false = not-outside some (r .short) in
     both-zero
-    (record-sound
-    s
-    at
-    2
-    false
-    (eqb (n % 2) 1 || outside 4 20 n)
+    (record-sound s at 2 false (eqb (n % 2) 1 || outside 4 20 n)
     (record {
       start = omega (arith, r .within);
       kind = r .kind;
@@ -232,27 +231,8 @@ pub workload-record-sound : (s : List ℕ) (at : ℕ) → SoundWorkloadRecord s 
 unfolding workloadFault
 workload-record-sound s at r =
     both-zero
-    (record-sound
-    s
-    at
-    3
-    false
-    (not (eqb (twoAt s at) 12))
-    (record {
-      start = omega (arith, r .within);
-      kind = r .kind;
-      few = refl;
-      right = ap not (eq-eqb _ _ (r .body));
-      body = omega (arith, r .within, r .body);
-    }))
+    (exact-record-sound s at 3 12 (omega (arith, r .within)) (r .kind) (r .body))
     (not-unequal 23 (r .zeroByte))
-
--- lists of workload values of one length, at most 256
-pub record RightLists (w : Workloads) : Type 0 where
-  pub few : length (w .cores) ≤ mostWorkloads
-  pub computing : length (w .computing) ≡ length (w .cores)
-  pub requests : length (w .requests) ≡ length (w .cores)
-  pub horizons : length (w .horizons) ≡ length (w .cores)
 
 -- lists that are not wrong are right
 pub right-lists : (w : Workloads) → listsWrong w ≡ false → RightLists w

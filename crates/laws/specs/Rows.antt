@@ -12,12 +12,12 @@ use lib.Dec.{eqb, eqb·suc-zero}
 use lib.Count.{ones, ones-step, ones-ones}
 use borrow.Author.Tests.{eq-eqb, ne-eqb}
 use Rattle.meaning.specs.PlanFile.{tabulate, byteAt, listedAt, budgetAt, rowAt, twoAt, twoBytes, maskOf, listedOf}
-use Rattle.laws.specs.Judging.{All}
+use Rattle.meaning.specs.Plan.{All}
 use Rattle.laws.specs.Masks.{tabulate-same, ones-double, mod-double, above, below}
 use Rattle.laws.specs.Bytes.{two-back}
 
 -- the row of m cores by a mask, with g j, g (j + 1) and so on listed
-abbrev pub rowBy : (ℕ → ℕ) → ℕ → ℕ → ℕ → List ℕ
+abbrev rowBy : (ℕ → ℕ) → ℕ → ℕ → ℕ → List ℕ
 rowBy g j m mask = tabulate m (λ k. cond (eqb (mask / 2 ^ k % 2) 1) (g (j + ones (mask % 2 ^ k))) 0)
 
 -- the row at an offset is the row by its mask and what is listed there
@@ -126,7 +126,7 @@ listed-row g j (suc m) mask h some =
         (ap (λ (l : List ℕ). twoBytes (g j) ++ l) (rw (odd, add-one) at rest))
 
 -- g j, g (j + 1) and so on are the budgets other than 0 of a row
-abbrev pub Lists : (ℕ → ℕ) → ℕ → List ℕ → Type 0
+abbrev Lists : (ℕ → ℕ) → ℕ → List ℕ → Type 0
 Lists g j row = (i : ℕ) → i < ones (maskOf row) → g (j + i) ≡ twoAt (listedOf row) (2 * i)
 
 -- a core without a budget is not in the mask, and nothing is listed of it

@@ -1,20 +1,19 @@
 -- Lawful runs: no run stalls more in n periods than S(n), so every run ends within a number of periods that holds the work.
-use mathlib.Core.Path.{_≡_, refl, sym, ap, ap₂, _∙_, subst, subst₂}
-use mathlib.Core.Logic.{_⊎_, inl, inr, ⊎-elim}
+use mathlib.Core.Path.{_≡_, refl, sym, ap, _∙_, subst}
+use mathlib.Core.Logic.{⊎-elim}
 use mathlib.Core.List.{List, [], _∷_, _++_, map}
-use Prim.Native.Nat.{ℕ, zero, suc, _+_, _-_, _*_, _≤_, _<_, min}
-use native.Mathlib.Nat.{le-refl, le-trans, le-of-eq, le-of-lt, le-antisymm, lt-irrefl, lt-of-lt-of-le, mul-le-mul-left, mul-le-mul-right, le-of-mul-le-mul-right, le-of-suc-le-suc, not-suc-le-zero, min-eq-left}
+use Prim.Native.Nat.{ℕ, zero, suc, _+_, _*_, _≤_, _<_}
+use native.Mathlib.Nat.{le-refl, le-of-lt, lt-irrefl, mul-le-mul-right, le-of-mul-le-mul-right, le-of-suc-le-suc, not-suc-le-zero, min-eq-left}
 use native.Mathlib.Omega.{arith}
 use native.Mathlib.Numerals.{one-add}
 use lib.ListN.{length, take, drop, replicate, length-take, length-drop}
 use Rattle.meaning.specs.Fraction.{Fraction, Proper, whole, _≤ᶠ_, _+ᶠ_}
 use Rattle.meaning.specs.Plan.{Plan, Workload, sumOf, rows, budgetOf}
-use Rattle.meaning.specs.Curve.{Curve, limit, raw, Envelope, EnvelopeOf, intervalStall}
+use Rattle.meaning.specs.Curve.{Curve, limit, raw, EnvelopeOf, intervalStall}
 use Rattle.meaning.specs.Placement.{Part, shares, PartsOf, Fitting, total, GreatestStall}
 use Rattle.meaning.specs.Span.{work, Holds}
-use Rattle.meaning.specs.Run.{Period, used, rowByPeriod, Allowed, LawfulOver, computed, requested, Lawful, Full, EndsWithin}
+use Rattle.meaning.specs.Run.{Period, rowByPeriod, Allowed, LawfulOver, computed, requested, Lawful, Full, EndsWithin}
 use Rattle.laws.specs.Order.{le-or-lt}
-use Rattle.laws.specs.Shape.{Concave}
 use Rattle.laws.specs.Fractions.{le-trans-fraction, sum-le, sum-proper}
 use Rattle.laws.specs.Passing.{stall-proper}
 use Rattle.laws.specs.Certificate.{partStall}
@@ -24,7 +23,7 @@ use Rattle.laws.specs.Judging.{SoundPlan}
 use Rattle.laws.specs.Values.{WholeRows, plan-whole, row-concave, parts-concave, parts-proper, stall-value-proper}
 
 -- the stall of a run
-abbrev pub stalled : List Period → ℕ
+abbrev stalled : List Period → ℕ
 stalled ds = sumOf (map (λ (d : Period). d .stall) ds)
 
 -- every period is allowed under the budgets in force

@@ -1,18 +1,18 @@
 -- 004's terms: they rise, they stay at or under every number that holds the work, and where they stop is the span.
-use mathlib.Core.Path.{_≡_, refl, sym, ap, _∙_, subst, subst₂}
+use mathlib.Core.Path.{_≡_, sym, ap, _∙_, subst, subst₂}
 use mathlib.Core.Logic.{_⊎_, inl, inr, ⊎-elim}
 use mathlib.Core.List.{List}
-use Prim.Native.Nat.{ℕ, zero, suc, _+_, _-_, _*_, _≤_, _<_}
-use native.Mathlib.Nat.{le-refl, le-trans, le-of-eq, le-of-lt, le-antisymm, lt-irrefl, lt-of-lt-of-le, lt-of-le-of-lt, eq-or-lt-of-le, mul-pos, mul-le-mul-left, mul-le-mul-right, le-of-mul-le-mul-right, eq-zero-or-pos}
+use Prim.Native.Nat.{ℕ, zero, suc, _+_, _*_, _≤_, _<_}
+use native.Mathlib.Nat.{le-refl, le-antisymm, lt-irrefl, lt-of-lt-of-le, lt-of-le-of-lt, eq-or-lt-of-le, mul-pos, mul-le-mul-right, le-of-mul-le-mul-right, eq-zero-or-pos}
 use native.Mathlib.Omega.{arith}
 use lib.Arith.{lt-of-le-ne}
-use Rattle.meaning.specs.Fraction.{Fraction, Proper, whole, _≤ᶠ_, _=ᶠ_, _+ᶠ_, over, roundUp}
+use Rattle.meaning.specs.Fraction.{Fraction, Proper, whole, _≤ᶠ_, _+ᶠ_, over, roundUp}
 use Rattle.meaning.specs.Plan.{Plan, Workload}
 use Rattle.meaning.specs.Placement.{AnsweredAt, total}
 use Rattle.meaning.specs.Span.{work, StallAt, Holds, IsSpan, NoSpan, firstTerm, NextTerm, SettlesFrom, Rounds}
 use Rattle.laws.specs.Order.{le-or-lt}
 use Rattle.laws.specs.Fractions.{round-up-holds, round-up-least, round-up-rises, round-up-twice}
-use Rattle.laws.specs.Judging.{SoundPlan, SoundCore}
+use Rattle.laws.specs.Judging.{SoundPlan}
 use Rattle.laws.specs.Values.{stall-value-proper}
 use Rattle.laws.specs.Growing.{stall-grows}
 use Rattle.laws.specs.Existing.{answered-greatest}
@@ -59,7 +59,7 @@ module _ (p : Plan) (w : Workload) (sound : SoundPlan p) where
       (stall-grows p (w .core) sound (w .requests) (w .requests) t v (ha .stall) (hb .stall) (le-refl (w .requests)) le (ha .greatest) (hb .greatest))))
 
   -- the term after t is one number
-  pub next-unique : (t a b : ℕ) → NextTerm p w t a → NextTerm p w t b → a ≡ b
+  next-unique : (t a b : ℕ) → NextTerm p w t a → NextTerm p w t b → a ≡ b
   next-unique t a b ha hb = le-antisymm (next-rises t t a b (le-refl t) ha hb) (next-rises t t b a (le-refl t) hb ha)
 
   -- the term after t, from the rounded stall at t
@@ -111,7 +111,7 @@ module _ (p : Plan) (w : Workload) (sound : SoundPlan p) where
       (h .enough)))
 
   -- a term that is equal to the one before it holds the work
-  pub settled-holds : (t : ℕ) → NextTerm p w t t → Holds p w t
+  settled-holds : (t : ℕ) → NextTerm p w t t → Holds p w t
   settled-holds t h =
       record {
         stall = h .stall;
@@ -184,13 +184,15 @@ module _ (p : Plan) (w : Workload) (sound : SoundPlan p) where
   abbrev pub Climbs : ℕ → Type 0
   Climbs t = (next : ℕ) → NextTerm p w t next → t ≤ next
 
+  -- the first term is no larger than the next
   pub first-climbs : Climbs (firstTerm p w)
   first-climbs next h = first-least (firstTerm p w) next h
 
+  -- after a term that is no larger than the next comes another
   pub next-climbs : (t next : ℕ) → Climbs t → NextTerm p w t next → Climbs next
   next-climbs t next climbs h later h' = next-rises t next next later (climbs next h) h h'
 
-  -- the rounds are at most the span less the first term, and one more
+  -- the rounds from a term on are at most the span less that term, and one more
   rounds-from : (k t n : ℕ) → Climbs t → SettlesFrom p w k t n → k + t ≤ n + 1
   rounds-from zero t n climbs h = absurd h
   rounds-from (suc k) t n climbs h =
@@ -202,6 +204,7 @@ module _ (p : Plan) (w : Workload) (sound : SoundPlan p) where
       omega (arith, more, up))
       (h .3)
 
+  -- the rounds are at most the span less the first term, and one more
   pub rounds-bound : (k n : ℕ) → Rounds p w n k → k + firstTerm p w ≤ n + 1
   rounds-bound k n h = rounds-from k (firstTerm p w) n first-climbs h
 

@@ -1,9 +1,8 @@
--- How many segments an envelope has. A corner between the first and the last is a place where the unit steps of the raw stall strictly drop; they do so only at another core's budget, so no envelope has more segments than there are cores.
+-- How many segments an envelope has. A corner between the first and the last is a place where the unit steps of the raw stall strictly drop; they start at no more than one for each other core, so no envelope has more segments than there are cores.
 use mathlib.Core.Path.{_≡_, ap}
-use mathlib.Core.List.{List, [], _∷_, List·Memᴰ, List·Memᴰ·head, List·Memᴰ·tail}
+use mathlib.Core.List.{List, [], _∷_}
 use Prim.Native.Nat.{ℕ, suc, _+_, _-_, _*_, _≤_, _<_, zero-le}
 use native.Mathlib.Nat.{le-suc, mul-le-mul-right, lt-of-mul-lt-mul-right}
-use native.Mathlib.Decide.{ℕ-discrete}
 use native.Mathlib.Omega.{arith}
 use lib.ListN.{length}
 use Rattle.meaning.specs.Plan.{sumOf, budgetOf}
@@ -12,11 +11,11 @@ use Rattle.laws.specs.Shape.{rate-le-last}
 use Rattle.laws.specs.Raw.{smaller-rises, smaller-one, smaller-steps-fall, others-length, budget-in-row, raw-below, smaller-le-raw}
 
 -- the step to r is strictly more than the step from r
-abbrev pub Bends : (ℕ → ℕ) → ℕ → Type 0
+abbrev Bends : (ℕ → ℕ) → ℕ → Type 0
 Bends stallAt r = stallAt (suc r) + stallAt (r - 1) < stallAt r + stallAt r
 
 -- each corner's rate between the first corner and the last has the property
-abbrev pub Between : (ℕ → Type 0) → Corner → List Corner → Type 0
+abbrev Between : (ℕ → Type 0) → Corner → List Corner → Type 0
 Between P a [] = Unit {0}
 Between P a (b ∷ []) = Unit {0}
 Between P a (b ∷ c ∷ cs) = P (b .rate) × Between P b (c ∷ cs)
@@ -65,7 +64,7 @@ corners-bend stallAt a (b ∷ c ∷ cs) on up down over =
     )
 
 -- at a corner between the first and the last the unit steps of the raw stall strictly drop, whatever the raw stall is
-pub corner-bends : (stallAt : ℕ → ℕ) (n : ℕ) (c : Curve)
+corner-bends : (stallAt : ℕ → ℕ) (n : ℕ) (c : Curve)
     → Envelope stallAt n c
     → Between (Bends stallAt) (c .first) (c .rest)
 corner-bends stallAt n c e = corners-bend stallAt (c .first) (c .rest) (e .onRaw) (e .rising) (e .falling) (e .covering)
@@ -86,16 +85,6 @@ between-map P R q a (b ∷ c ∷ cs) f up le h =
 -- the sum of the smaller ones, as a function of the requests
 abbrev smallerOf : List ℕ → ℕ → ℕ
 smallerOf bs r = sumOfSmaller r bs
-
--- it bends only at one of the budgets
-bend-is-budget : (bs : List ℕ) (r : ℕ) → 0 < r → Bends (smallerOf bs) r → List·Memᴰ r bs
-unfolding sumOfSmaller
-bend-is-budget [] r some bends = absurd (omega arith)
-bend-is-budget (b ∷ bs) r some bends = here (bend-is-budget bs r some) (ℕ-discrete r b)
-  where
-    here : (Bends (smallerOf bs) r → List·Memᴰ r bs) → Dec (r ≡ b) → List·Memᴰ r (b ∷ bs)
-    here later (yes same) = List·Memᴰ·head same
-    here later (no other) = List·Memᴰ·tail (later (omega arith))
 
 -- its steps never rise, so the corners after a and before the last are no more than the step from a
 corners-le-step : (bs : List ℕ) (a b : Corner) (cs : List Corner)
@@ -167,20 +156,6 @@ module _
         (e .rising)
         last-within
         (corner-bends (raw perPeriod row core) n c e)
-
-    -- a corner between the first and the last stands at another core's budget
-    pub corner-is-budget : Between (λ (r : ℕ). List·Memᴰ r (others (core - 1) row)) (c .first) (c .rest)
-    corner-is-budget =
-        between-map
-        (Bends (smallerOf (others (core - 1) row)))
-        (λ (r : ℕ). List·Memᴰ r (others (core - 1) row))
-        (budgetOf core row)
-        (c .first)
-        (c .rest)
-        (λ r some less. bend-is-budget (others (core - 1) row) r some)
-        (e .rising)
-        last-within
-        bends-between
 
     -- at most m segments, over 0..n for any n up to the core's budget
     pub at-most-cores : length (c .rest) ≤ length row

@@ -1,10 +1,10 @@
 -- What the laws ask of a raw stall and of a curve. Nothing here speaks of cores, and no curve has to start at height 0 or to have a segment.
-use mathlib.Core.Path.{_≡_, refl, sym, ap, _∙_, subst}
+use mathlib.Core.Path.{_≡_, sym, subst}
 use mathlib.Core.List.{List, [], _∷_}
 use Prim.Native.Nat.{ℕ, _≤_}
 use native.Mathlib.Nat.{le-trans, le-of-lt, le-refl}
 use native.Mathlib.Omega.{arith}
-use Rattle.meaning.specs.Curve.{Corner, Curve, lastOf, limit, OnRaw, Rising, Falling, Envelope}
+use Rattle.meaning.specs.Curve.{Corner, Curve, lastOf, OnRaw, Rising, Falling, Envelope}
 
 -- a raw stall that does not fall over 0..q
 abbrev pub Rises : (ℕ → ℕ) → ℕ → Type 0
@@ -26,6 +26,11 @@ pub record Concave (c : Curve) : Type 0 where
 pub rate-le-last : (a : Corner) (cs : List Corner) → Rising a cs → a .rate ≤ lastOf a cs .rate
 rate-le-last a [] h = le-refl (a .rate)
 rate-le-last a (b ∷ cs) h = le-trans (le-of-lt (h .0)) (rate-le-last b cs (h .1))
+
+-- slopes that fall do so from the second corner on
+pub falling-rest : (a b : Corner) (cs : List Corner) → Falling a (b ∷ cs) → Falling b cs
+falling-rest a b [] h = tt
+falling-rest a b (c ∷ cs) h = h .1
 
 -- the first corner is a point of the raw stall
 pub first-on : (stallAt : ℕ → ℕ) (a : Corner) (cs : List Corner) → OnRaw stallAt a cs → a .stall ≡ stallAt (a .rate)

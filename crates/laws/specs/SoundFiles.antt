@@ -31,7 +31,7 @@ file-sound s {f} e = ⊎-elim passed refused (eq-zero-or-pos (headFault s))
     refused given = absurd (not-refused (readFile s) e (head-refused s given))
 
 -- an interval record of a sound file has no fault, and the next is read
-pub intervals-sound : (k : ℕ) (s : List ℕ) (at : ℕ) (p : Plan) {f : PlanFile}
+intervals-sound : (k : ℕ) (s : List ℕ) (at : ℕ) (p : Plan) {f : PlanFile}
     → readIntervals (suc k) s at p ≡ Reading.sound f
     → (intervalFault s at p ≡ 0) × (readIntervals k s (at + 4 + twoAt s at) (withInterval s at p) ≡ Reading.sound f)
 intervals-sound k s at p {f} e = ⊎-elim passed refused (eq-zero-or-pos (intervalFault s at p))
@@ -49,7 +49,7 @@ abbrev pub withNext : List ℕ → ℕ → PlanFile → PlanFile
 withNext s at f = record { plan = f .plan; workloads = withWorkload s at (f .workloads) }
 
 -- a workload record without a fault comes next, of k at most
-abbrev pub Next : ℕ → List ℕ → ℕ → PlanFile → PlanFile → Type 0
+abbrev Next : ℕ → List ℕ → ℕ → PlanFile → PlanFile → Type 0
 Next zero s at f g = ⊥
 Next (suc k) s at f g =
     (at < length s) × (workloadFault s at false ≡ 0) × (readWorkloads k s (at + 16) (withNext s at f) ≡ Reading.sound g)
@@ -66,7 +66,7 @@ next-sound (suc k) s at f g more e none =
     (more, sound, sym (workload-passed k s at f more sound) ∙ e)
 
 -- a sound file ends here with what was read, or a workload record without a fault comes next
-pub workloads-sound : (k : ℕ) (s : List ℕ) (at : ℕ) (f g : PlanFile)
+workloads-sound : (k : ℕ) (s : List ℕ) (at : ℕ) (f g : PlanFile)
     → readWorkloads k s at f ≡ Reading.sound g
     → ((length s ≤ at) × (f ≡ g)) ⊎ Next k s at f g
 workloads-sound k s at f g e = ⊎-elim ended more (le-or-lt (length s) at)
@@ -126,13 +126,14 @@ workloads-end s Holds step (suc k) i at f g here e =
           holds = h .holds;
         }
 
--- what holds after i intervals at an offset, and goes on to hold after each record without a fault, holds before the workloads
+-- the plan read and the offset reached behind n intervals, where Holds holds and from where the workloads are read
 pub record Behind (s : List ℕ) (n : ℕ) (Holds : ℕ → ℕ → Plan → Type 0) (f : PlanFile) : Type 0 where
   pub plan : Plan
   pub offset : ℕ
   pub holds : Holds n offset plan
   pub reading : readWorkloads mostWorkloads s offset (record { plan = plan; workloads = noWorkloads }) ≡ Reading.sound f
 
+-- what holds after i intervals at an offset, and goes on to hold after each record without a fault, holds before the workloads
 pub intervals-behind : (s : List ℕ) (Holds : ℕ → ℕ → Plan → Type 0)
     → ((i at : ℕ) (p : Plan)
     → Holds i at p

@@ -1,26 +1,26 @@
 -- Every workload has a span or none, and at the span all requests are placed.
-use mathlib.Core.Path.{_≡_, refl, sym, ap, ap₂, _∙_, subst}
+use mathlib.Core.Path.{_≡_, refl, sym, ap, _∙_, subst}
 use mathlib.Core.Bool.{cond}
 use mathlib.Core.Logic.{_⊎_, inl, inr, ⊎-elim}
 use mathlib.Core.List.{List, [], _∷_}
-use Prim.Native.Nat.{ℕ, zero, suc, _+_, _-_, _*_, _≤_, _<_, min}
-use native.Mathlib.Nat.{le-refl, le-trans, le-of-eq, le-of-lt, lt-irrefl, lt-of-lt-of-le, eq-or-lt-of-le, mul-le-mul-right, le-of-mul-le-mul-right, mul-pos}
+use Prim.Native.Nat.{ℕ, zero, suc, _+_, _-_, _*_, _≤_, _<_}
+use native.Mathlib.Nat.{le-refl, lt-irrefl, lt-of-lt-of-le, eq-or-lt-of-le, mul-le-mul-right, le-of-mul-le-mul-right, mul-pos}
 use native.Mathlib.Omega.{arith}
 use Rattle.meaning.specs.Fraction.{Fraction, Proper, whole, _≤ᶠ_, _=ᶠ_, _+ᶠ_, roundUp}
-use Rattle.meaning.specs.Plan.{Plan, Workload, sumOf, periods, rows, budgetOf}
+use Rattle.meaning.specs.Plan.{Plan, Workload, sumOf, periods, rows, budgetOf, All}
 use Rattle.meaning.specs.Curve.{Corner, Curve, lastOf, limit, OnRaw, Rising, raw, EnvelopeOf, intervalStall, stallFrom}
-use Rattle.meaning.specs.Placement.{Part, shares, PartsOf, Fitting, Placement, total, Greatest, Answered, AnsweredAt}
+use Rattle.meaning.specs.Placement.{Part, shares, PartsOf, Fitting, total, Greatest, Answered, AnsweredAt}
 use Rattle.meaning.specs.Span.{work, Holds, IsSpan, NoSpan, firstTerm, NextTerm, SettlesFrom, Rounds}
 use Rattle.laws.specs.Order.{le-or-lt, eq-or-ne}
-use Rattle.laws.specs.Shape.{Climbing, Concave, first-on}
+use Rattle.laws.specs.Shape.{Climbing, Concave}
 use Rattle.laws.specs.Raw.{raw-full, raw-le}
-use Rattle.laws.specs.Fractions.{le-trans-fraction, sum-le, same-trans}
+use Rattle.laws.specs.Fractions.{le-trans-fraction, sum-le}
 use Rattle.laws.specs.Price.{Passed, here, step}
-use Rattle.laws.specs.Passing.{stall-proper, passed-same}
+use Rattle.laws.specs.Passing.{passed-same}
 use Rattle.laws.specs.Certificate.{partStall}
 use Rattle.laws.specs.Tangent.{stall-grows-requests}
-use Rattle.laws.specs.Judging.{All, SoundPlan, SoundCore}
-use Rattle.laws.specs.Values.{WholeRows, plan-whole, parts-unique, parts-concave, parts-proper, stall-value-proper, stall-value-same}
+use Rattle.laws.specs.Judging.{SoundPlan, SoundCore}
+use Rattle.laws.specs.Values.{WholeRows, plan-whole, parts-concave, parts-proper, stall-value-proper, stall-value-same}
 use Rattle.laws.specs.Existing.{answered-exists, answered-greatest}
 use Rattle.laws.specs.Searching.{next-of-stall, AtMostSpan, Climbs, holds-first, holds-next, settled-span, past-no-span, first-climbs, next-climbs, first-positive}
 use lib.Arith.{lt-of-le-ne}
@@ -121,11 +121,11 @@ Full (p ∷ ps) [] = ⊥
 Full (p ∷ ps) (x ∷ xs) = (x ≡ p .share * limit (p .curve)) × Full ps xs
 
 -- a placement with one request more that stalls no less
-pub record OneMore (ps : List Part) (xs : List ℕ) : Type 0 where
-  pub ys : List ℕ
-  pub fitting : Fitting ps ys
-  pub more : sumOf ys ≡ suc (sumOf xs)
-  pub noLess : total ps xs ≤ᶠ total ps ys
+record OneMore (ps : List Part) (xs : List ℕ) : Type 0 where
+  ys : List ℕ
+  fitting : Fitting ps ys
+  more : sumOf ys ≡ suc (sumOf xs)
+  noLess : total ps xs ≤ᶠ total ps ys
 
 full-or-more : (ps : List Part) (xs : List ℕ)
     → All (λ (p : Part). Concave (p .curve)) ps
@@ -203,7 +203,7 @@ last-on stallAt a [] on = on
 last-on stallAt a (b ∷ cs) on = last-on stallAt b cs (on .1)
 
 -- requests and stall together use so many slots
-abbrev pub Uses : Fraction → ℕ → ℕ → Type 0
+abbrev Uses : Fraction → ℕ → ℕ → Type 0
 Uses f x n = f .num + x * f .den ≡ n * f .den
 
 uses-sum : (f g : Fraction) (x y m n : ℕ) → Uses f x m → Uses g y n → Uses (f +ᶠ g) (x + y) (m + n)

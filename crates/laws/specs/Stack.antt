@@ -32,11 +32,11 @@ use Rattle.meaning.specs.Curve.{
 use Rattle.laws.specs.Shape.{Rises}
 
 -- the segment from u to t has the raw stall of every whole r on or under it
-abbrev pub Covers : (ℕ → ℕ) → Corner → Corner → Type 0
+abbrev Covers : (ℕ → ℕ) → Corner → Corner → Type 0
 Covers stallAt u t = (r : ℕ) → u .rate ≤ r → r ≤ t .rate → whole (stallAt r) ≤ᶠ onSegment u t 1 r
 
 -- the slope from u to t is less than the one that ends at u, where one does; the corners below u are given, the next lower first
-abbrev pub Flatter : Corner → Corner → List Corner → Type 0
+abbrev Flatter : Corner → Corner → List Corner → Type 0
 Flatter t u [] = Unit {0}
 Flatter t u (v ∷ s) = slope u t <ᶠ slope v u
 

@@ -2,17 +2,17 @@
 use mathlib.Core.Path.{_≡_, refl, sym, ap, _∙_, subst}
 use mathlib.Core.Logic.{⊎-elim}
 use mathlib.Core.List.{List, [], _∷_}
-use Prim.Native.Nat.{ℕ, zero, suc, _+_, _-_, _*_, _≤_, _<_}
-use native.Mathlib.Nat.{le-refl, le-trans, le-of-lt, le-of-eq, lt-irrefl, lt-of-lt-of-le, add-sub-of-le, mul-le-mul-left, le-add-right, mul-zero}
+use Prim.Native.Nat.{ℕ, _+_, _-_, _*_, _≤_, _<_}
+use native.Mathlib.Nat.{le-refl, le-trans, le-of-lt, le-of-eq, lt-irrefl, add-sub-of-le, mul-le-mul-left, le-add-right, mul-zero}
 use native.Mathlib.Omega.{arith}
-use Rattle.meaning.specs.Fraction.{Fraction, Proper, whole, _=ᶠ_}
-use Rattle.meaning.specs.Curve.{Corner, Curve, lastOf, limit, onSegment, Rising, Falling, intervalStall, stallFrom, slope}
+use Rattle.meaning.specs.Fraction.{whole, _=ᶠ_}
+use Rattle.meaning.specs.Curve.{Corner, Curve, lastOf, limit, Rising, stallFrom}
 use Rattle.meaning.specs.Placement.{Part}
 use Rattle.laws.specs.Order.{le-or-lt}
 use Rattle.laws.specs.Shape.{Climbing, Concave, rate-le-last}
-use Rattle.laws.specs.Fractions.{Times, TimesLe, times-same, same-trans}
+use Rattle.laws.specs.Fractions.{Times, times-same, same-trans}
 use Rattle.laws.specs.Price.{Passed, here, step, Along, Slack, Loose, Tight, Under, LooseAfter, priced, priced-same, priced-less-after, priced-less-before}
-use Rattle.laws.specs.Passing.{stall-proper, stall-at-first, passed-rate, passed-same, passed-rising, passed-climbing, passed-last}
+use Rattle.laws.specs.Passing.{stall-proper, stall-at-first, passed-same, passed-rising, passed-climbing, passed-last}
 use Rattle.laws.specs.Certificate.{Certificate, partStall}
 
 -- the slope of a segment is at least p/d
@@ -20,7 +20,7 @@ abbrev pub Steep : ℕ → ℕ → Corner → Corner → Type 0
 Steep p d a b = p * (b .rate - a .rate) ≤ d * (b .stall - a .stall)
 
 -- the slope is larger than p/d
-abbrev pub Steeper : ℕ → ℕ → Corner → Corner → Type 0
+abbrev Steeper : ℕ → ℕ → Corner → Corner → Type 0
 Steeper p d a b = p * (b .rate - a .rate) < d * (b .stall - a .stall)
 
 -- the slope is at most p/d
@@ -46,7 +46,7 @@ pub record Stage : Type 0 where
   pub now : Curve
 
 -- the interval as a part of a plan
-abbrev pub part : Stage → Part
+abbrev part : Stage → Part
 part s = record { share = s .share; curve = s .curve }
 
 -- interval i is filled just so far that the segment of slope p/d in interval k is next
@@ -159,19 +159,7 @@ module _ (p d k i : ℕ) (s : Stage) (at : At p d k i s) where
   pub stage-tight : Tight p d (excessAt p d (s .now .first)) (s .now .first)
   unfolding excessAt
   stage-tight =
-      let worth =
-      passed-worth
-      p
-      d
-      k
-      i
-      (s .curve .first)
-      (s .now .first)
-      (s .curve .rest)
-      (s .now .rest)
-      (at .sound .rising)
-      (at .sound .climbing)
-      (at .reached) in
+      let worth = passed-worth p d k i _ _ _ _ (at .sound .rising) (at .sound .climbing) (at .reached) in
       let zero-rate : p * s .curve .first .rate ≡ 0 = ap (λ (n : ℕ). p * n) (at .sound .starts) ∙ mul-zero p in
       omega (arith, worth, zero-rate)
 
@@ -192,6 +180,12 @@ module _ (p d k i : ℕ) (s : Stage) (at : At p d k i s) where
     top : i < k → x ≡ s .share * s .now .first .rate
     bottom : k < i → x ≡ s .share * s .now .first .rate
 
+  -- from the corner reached on, the interval stalls as what is left of its curve does
+  stall-left : (y : ℕ)
+      → s .share * s .now .first .rate ≤ y
+      → partStall (part s) y =ᶠ stallFrom (s .now .first) (s .now .rest) (s .share) y
+  stall-left y from = passed-same (s .share) y _ _ _ _ (at .sound .rising) (at .sound .climbing) (at .reached) from
+
   no-more : (y : ℕ)
       → i < k
       → s .share * s .now .first .rate < y
@@ -199,18 +193,6 @@ module _ (p d k i : ℕ) (s : Stage) (at : At p d k i s) where
       → Times d (partStall (part s) y) (p * y + s .share * (excessAt p d (s .now .first)))
       → ⊥
   no-more y before more fits touches =
-      let same =
-      passed-same
-      (s .share)
-      y
-      (s .curve .first)
-      (s .now .first)
-      (s .curve .rest)
-      (s .now .rest)
-      (at .sound .rising)
-      (at .sound .climbing)
-      (at .reached)
-      (le-of-lt more) in
       let later =
       times-same
       d
@@ -218,33 +200,12 @@ module _ (p d k i : ℕ) (s : Stage) (at : At p d k i s) where
       (stallFrom (s .now .first) (s .now .rest) (s .share) y)
       (p * y + s .share * (excessAt p d (s .now .first)))
       (stall-proper (s .share) y (s .curve .first) (s .curve .rest) (at .sound .rising))
-      same
+      (stall-left y (le-of-lt more))
       touches in
+      let e = excessAt p d (s .now .first) in
+      let loose = rest-loose p d k i e (s .now .first) (s .now .rest) now-rising now-climbing (at .remaining) before (le-of-eq stage-tight) in
       let less =
-      priced-less-after
-      p
-      d
-      (excessAt p d (s .now .first))
-      (s .share)
-      y
-      (s .now .first)
-      (s .now .rest)
-      now-rising
-      now-climbing
-      (le-of-eq stage-tight)
-      (rest-loose
-      p
-      d
-      k
-      i
-      (excessAt p d (s .now .first))
-      (s .now .first)
-      (s .now .rest)
-      now-rising
-      now-climbing
-      (at .remaining)
-      before
-      (le-of-eq stage-tight))
+      priced-less-after p d e (s .share) y (s .now .first) (s .now .rest) now-rising now-climbing (le-of-eq stage-tight) loose
       more
       (subst
       (λ (n : ℕ). y ≤ s .share * n)
@@ -258,35 +219,9 @@ module _ (p d k i : ℕ) (s : Stage) (at : At p d k i s) where
       → Times d (partStall (part s) y) (p * y + s .share * (excessAt p d (s .now .first)))
       → ⊥
   no-less y after less touches =
-      let under =
-      priced-less-before
-      p
-      d
-      (excessAt p d (s .now .first))
-      (s .share)
-      y
-      (s .curve .first)
-      (s .now .first)
-      (s .curve .rest)
-      (s .now .rest)
-      (passed-loose
-      p
-      d
-      k
-      i
-      (excessAt p d (s .now .first))
-      (s .curve .first)
-      (s .now .first)
-      (s .curve .rest)
-      (s .now .rest)
-      (at .sound .rising)
-      (at .sound .climbing)
-      after
-      stage-tight
-      (at .reached))
-      (le-of-eq stage-tight)
-      (from-start y)
-      less in
+      let e = excessAt p d (s .now .first) in
+      let loose = passed-loose p d k i e _ _ _ _ (at .sound .rising) (at .sound .climbing) after stage-tight (at .reached) in
+      let under = priced-less-before p d e (s .share) y _ _ _ _ loose (le-of-eq stage-tight) (from-start y) less in
       lt-irrefl _ (subst (λ (n : ℕ). n < (p * y + s .share * (excessAt p d (s .now .first))) * partStall (part s) y .den) touches under)
 
   certificate : (x : ℕ) → Shows x → Certificate p d k i (part s) (excessAt p d (s .now .first)) x
@@ -296,33 +231,9 @@ module _ (p d k i : ℕ) (s : Stage) (at : At p d k i s) where
         proper = λ y. stall-proper (s .share) y (s .curve .first) (s .curve .rest) (at .sound .rising);
         bound =
             λ y fits.
-            priced
-            p
-            d
-            (excessAt p d (s .now .first))
-            (s .share)
-            y
-            (s .curve .first)
-            (s .curve .rest)
-            (at .sound .rising)
-            (at .sound .climbing)
-            (all-under
-            p
-            d
-            k
-            i
-            (excessAt p d (s .now .first))
-            (s .curve .first)
-            (s .now .first)
-            (s .curve .rest)
-            (s .now .rest)
-            (at .sound .rising)
-            (at .sound .climbing)
-            (at .reached)
-            (at .remaining)
-            stage-tight)
-            (from-start y)
-            fits;
+            let e = excessAt p d (s .now .first) in
+            let under = all-under p d k i e _ _ _ _ (at .sound .rising) (at .sound .climbing) (at .reached) (at .remaining) stage-tight in
+            priced p d e (s .share) y (s .curve .first) (s .curve .rest) (at .sound .rising) (at .sound .climbing) under (from-start y) fits;
         touch = shows .touch;
         top =
             λ before y fits touches.
@@ -350,25 +261,13 @@ module _ (p d k i : ℕ) (s : Stage) (at : At p d k i s) where
   corner-touch : Times d (partStall (part s) (s .share * s .now .first .rate)) (p * (s .share * s .now .first .rate) + s .share * (excessAt p d (s .now .first)))
   corner-touch =
       let x = s .share * s .now .first .rate in
-      let same =
-      passed-same
-      (s .share)
-      x
-      (s .curve .first)
-      (s .now .first)
-      (s .curve .rest)
-      (s .now .rest)
-      (at .sound .rising)
-      (at .sound .climbing)
-      (at .reached)
-      (le-refl x) in
       let value =
       same-trans
       (partStall (part s) x)
       (stallFrom (s .now .first) (s .now .rest) (s .share) x)
       (whole (s .share * s .now .first .stall))
       (stall-proper (s .share) x (s .now .first) (s .now .rest) now-rising)
-      same
+      (stall-left x (le-refl x))
       (stall-at-first (s .share) (s .now .first) (s .now .rest) now-rising) in
       times-same
       d
@@ -418,7 +317,7 @@ segment-certificate p d k w left c t b bs at steep fits =
       spread p (t .rate) (b .rate) (le-of-lt (up .0)),
       spread d (t .stall) (b .stall) (climb .0),
     ) in
-    let same = passed-same w x (c .first) t (c .rest) (b ∷ bs) (at .sound .rising) (at .sound .climbing) (at .reached) (le-add-right (w * t .rate) left) in
+    let same = stall-left p d k k s at x (le-add-right (w * t .rate) left) in
     let value = priced-same p d e w x t b bs (le-of-lt (up .0)) (climb .0) low high (le-add-right (w * t .rate) left) inside in
     certificate
     p

@@ -1,19 +1,19 @@
 -- A price for every point of a curve: its line goes through the point, and no corner is above it. So the stall of an interval is concave, and grows with its periods and with its requests.
-use mathlib.Core.Path.{_≡_, refl, sym, ap, _∙_, subst}
+use mathlib.Core.Path.{_≡_, ap, subst}
 use mathlib.Core.Logic.{⊎-elim}
 use mathlib.Core.List.{List, [], _∷_}
-use Prim.Native.Nat.{ℕ, zero, suc, _+_, _-_, _*_, _≤_, _<_}
-use native.Mathlib.Nat.{le-refl, le-trans, le-of-lt, le-of-eq, lt-irrefl, lt-of-lt-of-le, add-sub-of-le, ne-of-lt, mul-le-mul-left, mul-le-mul-right, le-add-right}
+use Prim.Native.Nat.{ℕ, _+_, _-_, _*_, _≤_}
+use native.Mathlib.Nat.{le-refl, le-trans, le-of-lt, lt-irrefl, add-sub-of-le, ne-of-lt, mul-le-mul-left, mul-le-mul-right}
 use native.Mathlib.Omega.{arith}
-use Rattle.meaning.specs.Fraction.{Fraction, Proper, whole, _≤ᶠ_, _+ᶠ_}
-use Rattle.meaning.specs.Curve.{Corner, Curve, lastOf, limit, Rising, Falling, intervalStall, stallFrom}
+use Rattle.meaning.specs.Fraction.{_≤ᶠ_, _+ᶠ_}
+use Rattle.meaning.specs.Curve.{Corner, Curve, lastOf, limit, Rising, intervalStall, stallFrom}
 use Rattle.laws.specs.Order.{le-or-lt}
-use Rattle.laws.specs.Shape.{Climbing, Concave, rate-le-last}
+use Rattle.laws.specs.Shape.{Concave}
 use Rattle.laws.specs.Fractions.{Times, TimesLe, times-le-sum, le-of-times}
-use Rattle.laws.specs.Price.{Passed, here, step, Under, Tight, priced}
-use Rattle.laws.specs.Passing.{passed-rising, passed-climbing, passed-last}
-use Rattle.laws.specs.Stage.{Stage, At, Steep, Beyond, Ahead, excessAt, stage-tight, all-under, segment-certificate}
-use Rattle.laws.specs.Filling.{Follows, passed-more, passed-map, passed-falling, beyond-follows, along-heads}
+use Rattle.laws.specs.Price.{Passed, here, Under, priced}
+use Rattle.laws.specs.Passing.{passed-rising, passed-last}
+use Rattle.laws.specs.Stage.{At, Beyond, excessAt, stage-tight, all-under, segment-certificate}
+use Rattle.laws.specs.Filling.{passed-more, passed-map, passed-falling, beyond-follows, along-heads}
 
 -- a price whose line goes through the point of x requests in w periods, with no corner above it
 pub record Tangent (c : Curve) (w x : ℕ) : Type 0 where
@@ -159,7 +159,7 @@ tangent-none a w x =
       touch = omega arith;
     }
 
--- every point of a curve has a tangent
+-- every point of a curve has a tangent, by the corners of the curve
 tangent-of : (w x : ℕ) (a : Corner) (cs : List Corner)
     → Concave (record { first = a; rest = cs })
     → x ≤ w * lastOf a cs .rate
@@ -170,6 +170,7 @@ tangent-of w x a (b ∷ bs) sound to =
     (omega (arith, ap (λ (n : ℕ). w * n) (sound .starts)))
     to
 
+-- every point of a concave curve up to its limit has a tangent
 pub tangent : (c : Curve) (w x : ℕ) → Concave c → x ≤ w * limit c → Tangent c w x
 tangent c w x sound to = tangent-of w x (c .first) (c .rest) sound to
 

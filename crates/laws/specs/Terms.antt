@@ -1,5 +1,5 @@
 -- 004's terms in whole numbers: rounding the stall up first changes no term, no plan has a stall past its slots, and what terms that were computed one after another lead to.
-use mathlib.Core.Path.{_≡_, refl, sym, ap, _∙_, subst}
+use mathlib.Core.Path.{_≡_, refl, sym, subst}
 use mathlib.Core.Logic.{inl, inr}
 use mathlib.Core.List.{List, [], _∷_}
 use Prim.Native.Nat.{ℕ, zero, suc, _+_, _-_, _*_, _/_, _≤_, _<_}
@@ -25,6 +25,7 @@ use Rattle.laws.specs.Searching.{next-of-stall, AtMostSpan, next-rises, 
 abbrev pub holding : ℕ → ℕ → ℕ
 holding q n = (n + (q - 1)) / q
 
+-- n slots, in periods of q slots
 abbrev slotsOver : ℕ → ℕ → Fraction
 slotsOver q n = record { num = n; den = q }
 

@@ -25,7 +25,7 @@ use Rattle.meaning.specs.Curve.{
   Covering,
   Envelope,
 }
-use Rattle.laws.specs.Shape.{Rises, Climbing, rate-le-last, first-on, envelope-concave}
+use Rattle.laws.specs.Shape.{Rises, Climbing, rate-le-last, falling-rest, first-on, envelope-concave}
 
 -- the corners of an envelope from a on
 record Onward (stallAt : ℕ → ℕ) (q : ℕ) (a : Corner) (cs : List Corner) : Type 0 where
@@ -35,10 +35,6 @@ record Onward (stallAt : ℕ → ℕ) (q : ℕ) (a : Corner) (cs : List Corner) 
   climbing : Climbing a cs
   falling : Falling a cs
   covering : Covering stallAt a cs
-
-falling-rest : (a b : Corner) (cs : List Corner) → Falling a (b ∷ cs) → Falling b cs
-falling-rest a b [] h = tt
-falling-rest a b (c ∷ cs) h = h .1
 
 onward-rest : (stallAt : ℕ → ℕ) (q : ℕ) (a b : Corner) (cs : List Corner)
     → Onward stallAt q a (b ∷ cs)

@@ -1,21 +1,20 @@
 -- The greatest stall of a plan at W has one value, and the answered placement is one list.
 use mathlib.Core.Path.{_≡_, refl, sym, ap, ap₂, _∙_, subst, subst₂}
-use mathlib.Core.Logic.{_⊎_, inl, inr, ⊎-elim}
+use mathlib.Core.Logic.{inl, inr}
 use mathlib.Core.List.{List, [], _∷_}
-use Prim.Native.Nat.{ℕ, zero, suc, _+_, _-_, _*_, _≤_, _<_, min}
-use native.Mathlib.Nat.{le-refl, le-trans, le-antisymm, lt-irrefl, lt-trans, ne-of-lt, mul-le-mul-right}
-use native.Mathlib.Omega.{arith}
-use Rattle.meaning.specs.Fraction.{Fraction, Proper, whole, _≤ᶠ_, _=ᶠ_, _+ᶠ_, roundUp}
-use Rattle.meaning.specs.Plan.{Plan, sumOf, rows, budgetOf}
-use Rattle.meaning.specs.Curve.{Curve, limit, raw, EnvelopeOf}
-use Rattle.meaning.specs.Placement.{Part, shares, PartsOf, Fitting, Placement, total, Greatest, NotAhead, Answered, GreatestStall, AnsweredAt}
+use Prim.Native.Nat.{ℕ}
+use native.Mathlib.Nat.{le-refl, le-antisymm, lt-irrefl, lt-trans, ne-of-lt}
+use Rattle.meaning.specs.Fraction.{Fraction, Proper, _=ᶠ_, roundUp}
+use Rattle.meaning.specs.Plan.{Plan, sumOf, rows, budgetOf, All}
+use Rattle.meaning.specs.Curve.{Curve, raw, EnvelopeOf}
+use Rattle.meaning.specs.Placement.{Part, shares, PartsOf, Fitting, total, Greatest, NotAhead, Answered, GreatestStall, AnsweredAt}
 use Rattle.laws.specs.Shape.{Concave, envelope-concave}
 use Rattle.laws.specs.Raw.{raw-rises}
 use Rattle.laws.specs.Unique.{envelope-unique}
-use Rattle.laws.specs.Fractions.{same-of-le, sum-proper, round-up-same}
+use Rattle.laws.specs.Fractions.{same-of-le, sum-proper}
 use Rattle.laws.specs.Passing.{stall-proper}
 use Rattle.laws.specs.Certificate.{partStall}
-use Rattle.laws.specs.Judging.{All, SoundPlan, WholeRow}
+use Rattle.laws.specs.Judging.{SoundPlan, WholeRow}
 
 -- every interval's budgets sum to Q
 abbrev pub WholeRows : ℕ → List (List ℕ) → Type 0
@@ -36,7 +35,7 @@ module _ (perPeriod core : ℕ) where
       envelope-concave (raw perPeriod r core) (budgetOf core r) c (raw-rises perPeriod r core sums) e
 
   -- the parts of a plan are one list
-  pub parts-unique : (ws : List ℕ) (rs : List (List ℕ)) (ps qs : List Part)
+  parts-unique : (ws : List ℕ) (rs : List (List ℕ)) (ps qs : List Part)
       → WholeRows perPeriod rs
       → PartsOf perPeriod core ws rs ps
       → PartsOf perPeriod core ws rs qs
@@ -76,7 +75,7 @@ parts-proper (p ∷ ps) (x ∷ xs) h =
     (parts-proper ps xs (h .1))
 
 -- two greatest totals are one value
-pub greatest-same : (ps : List Part) (requests : ℕ) (xs ys : List ℕ)
+greatest-same : (ps : List Part) (requests : ℕ) (xs ys : List ℕ)
     → Greatest ps requests xs
     → Greatest ps requests ys
     → total ps xs =ᶠ total ps ys
@@ -93,7 +92,7 @@ both-not-ahead (p ∷ ps) (x ∷ xs) (y ∷ ys) fx fy (inr l) (inr m) =
     ap₂ _∷_ (l .0) (both-not-ahead ps xs ys (fx .1) (fy .1) (l .1) (m .1))
 
 -- the answered placement is the only one
-pub answered-unique : (ps : List Part) (requests : ℕ) (xs ys : List ℕ)
+answered-unique : (ps : List Part) (requests : ℕ) (xs ys : List ℕ)
     → Answered ps requests xs
     → Answered ps requests ys
     → xs ≡ ys

@@ -10,12 +10,12 @@ use lib.Seq.{getD-append-add}
 use lib.Dec.{eqb}
 use lib.Count.{ones, ones-le}
 use borrow.Author.Tests.{ne-eqb}
-use Rattle.meaning.specs.Plan.{Plan, sumOf, intervals, rowsOf, rows, mostWorkloads}
+use Rattle.meaning.specs.Plan.{Plan, sumOf, intervals, rowsOf, rows, mostWorkloads, All}
 use Rattle.meaning.specs.Refusals.{_before_, refusedIf, coresRefusal, perPeriodRefusal, intervalsOutside, intervalRefusal, intervalsRefusal, planRefusal}
-use Rattle.meaning.specs.PlanFile.{Reading, PlanFile, Workloads, withWorkload, noWorkloads, readFile, readWorkloads, workloadRecords, fileOf, twoBytes, byteAt, twoAt, fourAt, listedAt, rowAt, listedZero, readIntervals, maskOf, listedOf, intervalRecords}
-use Rattle.laws.specs.Judging.{All, SoundPlan, sound-plan, first-zero, second-zero, SoundInterval, sound-interval}
+use Rattle.meaning.specs.PlanFile.{Reading, PlanFile, Workloads, withWorkload, noWorkloads, readFile, readWorkloads, workloadRecords, fileOf, twoBytes, byteAt, twoAt, fourAt, listedAt, rowAt, listedZero, readIntervals, maskOf, listedOf, intervalRecords, RightLists, Widths}
+use Rattle.laws.specs.Judging.{SoundPlan, sound-plan, first-zero, second-zero, SoundInterval, sound-interval}
 use Rattle.laws.specs.Masks.{sum-append, mask-lt, mask-byte, listed-count}
-use Rattle.laws.specs.Records.{SoundHead, head-sound, SoundIntervalRecord, interval-record-sound, SoundWorkloadRecord, workload-record-sound, RightLists}
+use Rattle.laws.specs.Records.{SoundHead, head-sound, SoundIntervalRecord, interval-record-sound, SoundWorkloadRecord, workload-record-sound}
 use Rattle.laws.specs.Reading.{head-passed, interval-passed, workload-passed, workloads-ended}
 use Rattle.laws.specs.Bytes.{headBytes, intervalBytes, interval-bytes, workloadBytes, two-back, four-back}
 use Rattle.laws.specs.ReadWrites.{nil-of}
@@ -261,6 +261,7 @@ abbrev workloadsWith : List ℕ → List ℕ → List ℕ → List ℕ → Workl
 workloadsWith cores computing requests horizons =
     record { cores = cores; computing = computing; requests = requests; horizons = horizons }
 
+-- a file by its plan and its workloads
 abbrev fileWith : Plan → Workloads → PlanFile
 fileWith p w = record { plan = p; workloads = w }
 
@@ -394,12 +395,6 @@ workloads-read (suc k) s front (c ∷ cs) (e ∷ es) (r ∷ rs) (h ∷ hs) p w m
     (append-assoc (w .computing) (e ∷ []) es i)
     (append-assoc (w .requests) (r ∷ []) rs i)
     (append-assoc (w .horizons) (h ∷ []) hs i))))
-
--- workload values within their widths in the file: four, four and two bytes
-pub record Widths (w : Workloads) : Type 0 where
-  pub computing : All (λ (n : ℕ). n < 4_294_967_296) (w .computing)
-  pub requests : All (λ (n : ℕ). n < 4_294_967_296) (w .requests)
-  pub horizons : All (λ (n : ℕ). n < 65_536) (w .horizons)
 
 -- the intervals of a plan that is not refused are not refused
 intervals-unrefused : (p : Plan)

@@ -8,3 +8,4 @@ pub mod Refusals
 pub mod PlanFile
 pub mod Promises
 pub mod Listing
+pub mod Again

@@ -109,16 +109,19 @@ workloadAt w k =
       horizon = getD (w .horizons) k 0;
     }
 
+-- the text of the line of the k-th workload, k from 0: what the question "span" answers
+abbrev pub WorkloadText : PlanFile → ℕ → List ℕ → Type 0
+WorkloadText f k text =
+    (a : SpanFigures)
+    × (xs : List ℕ)
+    × SpanAnswer (f .plan) (workloadAt (f .workloads) k) (intervals (f .plan)) a xs
+    × (text ≡ answerLine (suc k) a xs (a .refused))
+
 -- the lines of n workloads from the k-th on, k from 0, and the last line
 abbrev pub Lines : PlanFile → ℕ → ℕ → List ℕ → Type 0
 Lines f k zero text = text ≡ endLine k
 Lines f k (suc n) text =
-    (a : SpanFigures)
-    × (xs : List ℕ)
-    × (later : List ℕ)
-    × SpanAnswer (f .plan) (workloadAt (f .workloads) k) (intervals (f .plan)) a xs
-    × Lines f (suc k) n later
-    × (text ≡ answerLine (suc k) a xs (a .refused) ++ later)
+    (line : List ℕ) × (later : List ℕ) × WorkloadText f k line × Lines f (suc k) n later × (text ≡ line ++ later)
 
 -- the listing of what a file was found to hold
 abbrev pub ListingOf : Reading → List ℕ → Type 0

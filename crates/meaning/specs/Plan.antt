@@ -27,6 +27,11 @@ mostWork = 4_294_836_225
 abbrev pub mostWorkloads : ℕ
 mostWorkloads = 256
 
+-- each member of a list has the property
+abbrev pub All : {A : Type 0} → (A → Type 0) → List A → Type 0
+All P [] = Unit {0}
+All P (a ∷ l) = P a × All P l
+
 -- cores m, slots per period Q, the periods of each interval, and the budgets, interval by interval, core 1 first
 pub record Plan : Type 0 where
   pub cores : ℕ

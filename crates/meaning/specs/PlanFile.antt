@@ -1,11 +1,12 @@
 -- Plan file: records of a body's length (two bytes), a kind (two bytes) and the body, all little-endian; how one is read, and how one is written.
+use mathlib.Core.Path.{_≡_}
 use mathlib.Core.Bool.{Bool, true, false, cond, not, _||_}
 use mathlib.Core.List.{List, [], _∷_, _++_}
-use Prim.Native.Nat.{ℕ, zero, suc, _+_, _*_, _/_, _%_, _^_}
+use Prim.Native.Nat.{ℕ, zero, suc, _+_, _*_, _/_, _%_, _^_, _≤_, _<_}
 use lib.ListN.{length, getD, drop}
 use lib.Dec.{leb, ltb, eqb}
 use lib.Count.{ones}
-use Rattle.meaning.specs.Plan.{Plan, sumOf, rows, mostWorkloads}
+use Rattle.meaning.specs.Plan.{Plan, All, sumOf, rows, mostWorkloads}
 use Rattle.meaning.specs.Refusals.{refusedIf, _before_, outside, coresRefusal, perPeriodRefusal, intervalsOutside, intervalRefusal, planRefusal, roomRefusal}
 
 -- the workloads of a file, as four lists of values
@@ -206,3 +207,20 @@ writeRefusal f room =
     planRefusal (f .plan)
     before refusedIf (listsWrong (f .workloads)) 25
     before roomRefusal (length (fileOf f)) room
+
+-- a list of bytes
+abbrev pub Bytes : List ℕ → Type 0
+Bytes s = All (λ (b : ℕ). b < 256) s
+
+-- lists of workload values of one length, at most 256
+pub record RightLists (w : Workloads) : Type 0 where
+  pub few : length (w .cores) ≤ mostWorkloads
+  pub computing : length (w .computing) ≡ length (w .cores)
+  pub requests : length (w .requests) ≡ length (w .cores)
+  pub horizons : length (w .horizons) ≡ length (w .cores)
+
+-- workload values within their widths in the file: four, four and two bytes
+pub record Widths (w : Workloads) : Type 0 where
+  pub computing : All (λ (n : ℕ). n < 4_294_967_296) (w .computing)
+  pub requests : All (λ (n : ℕ). n < 4_294_967_296) (w .requests)
+  pub horizons : All (λ (n : ℕ). n < 65_536) (w .horizons)

@@ -3,8 +3,8 @@ use mathlib.Core.Path.{_≡_}
 use mathlib.Core.Logic.{_⊎_}
 use mathlib.Core.Bool.{Bool, true, false, cond, _&&_}
 use mathlib.Core.List.{List, [], _++_}
-use Prim.Native.Nat.{ℕ, zero, suc}
-use lib.ListN.{length, drop}
+use Prim.Native.Nat.{ℕ, zero, suc, _*_}
+use lib.ListN.{length, take, drop}
 use lib.Dec.{leb}
 use Rattle.meaning.specs.Plan.{Plan, Workload, intervals}
 use Rattle.meaning.specs.Curve.{Curve, raw, rates, count, EnvelopeOf}
@@ -149,6 +149,26 @@ fileWritten f places =
       computing = written (f .workloads .computing) (places .computing);
       requests = written (f .workloads .requests) (places .requests);
       horizons = written (f .workloads .horizons) (places .horizons);
+    }
+
+-- what the reader's figures and the fronts of its places hold
+abbrev pub fileHeld : ReadFigures → Places → PlanFile
+fileHeld a places =
+    record {
+      plan =
+          record {
+            cores = a .cores;
+            perPeriod = a .perPeriod;
+            lengths = take (a .intervals) (places .lengths);
+            budgets = take (a .intervals * a .cores) (places .budgets);
+          };
+      workloads =
+          record {
+            cores = take (a .workloads) (places .cores);
+            computing = take (a .workloads) (places .computing);
+            requests = take (a .workloads) (places .requests);
+            horizons = take (a .workloads) (places .horizons);
+          };
     }
 
 -- a sound file's intervals, budgets and workloads fit the lent places

@@ -128,7 +128,7 @@ abbrev pub workloadsOf : List ℕ → List ℕ → List ℕ → List ℕ → Wor
 workloadsOf cores computing requests horizons =
     record { cores = cores; computing = computing; requests = requests; horizons = horizons }
 
--- four places after the first n workloads from an offset on were stored from the front of each from the front of each
+-- four places after the first n workloads from an offset on were stored from the front of each
 pub record Filled (s : List ℕ) (start n : ℕ) (old new : Workloads) : Type 0 where
   pub cores : new .cores ≡ sets (old .cores) 0 (workloadsTo s start n .cores)
   pub computing : new .computing ≡ sets (old .computing) 0 (workloadsTo s start n .computing)

@@ -62,7 +62,7 @@ module _ (f : PlanFile) (place : List ℕ) where
     file-written room bytes = rw (none-refused room) (refl, bytes ∙ sets-front place (fileOf f) room)
 
 -- a file is its head, its intervals and its workloads
-pub file-parts : (f : PlanFile)
+file-parts : (f : PlanFile)
     → headBytes (f .plan .cores) (f .plan .perPeriod) (length (f .plan .lengths))
     ++ intervalRecords (f .plan .lengths) (rows (f .plan))
     ++ workloadRecords (f .workloads .cores) (f .workloads .computing) (f .workloads .requests) (f .workloads .horizons)

@@ -3,10 +3,12 @@ ghost use mathlib.Core.Path.{_≡_};
 ghost use mathlib.Core.Bool.{false};
 ghost use Prim.Native.Nat.{_+_, _*_, _^_, _≤_, _<_};
 ghost use lib.ListN.{length};
-ghost use Rattle.meaning.specs.Plan.{sumOf};
+ghost use Rattle.meaning.specs.Plan.{sumOf, mostCores};
 ghost use Rattle.meaning.specs.Refusals.{outside, intervalRefusal};
 ghost use Rattle.meaning.specs.PlanFile.{byteAt, twoAt, budgetAt, rowAt, listedZero, headFault, workloadFault};
 ghost use Rattle.planfile.specs.Faults.{numberFound, lengthWrong, startFault, ListedWithin, IsIntervalFault};
+use crate::MOST_CORES;
+use crate::MOST_INTERVALS;
 use crate::bytes::two_at;
 use crate::bytes::wide;
 use units::Periods;
@@ -21,7 +23,7 @@ pub enum Finding {
 
 // The bit of a core, counted from 0, in a mask.
 pub fn bit(core: u8) -> u32
-    requires { ⌜ core ≤ 8 ⌝ }
+    requires { ⌜ core ≤ mostCores ⌝ }
     ensures { λ r. ⌜ r ≡ 2 ^ core ⌝ }
 {
     1 << core
@@ -96,13 +98,13 @@ fn head_values_fault(file: &[u8]) -> Finding
     if file[5] != 0 {
         return Finding::Refused(Refusal::BitsNotZero);
     }
-    if is_outside(1, 8, wide(file[4])) {
+    if is_outside(1, MOST_CORES, wide(file[4])) {
         return Finding::Refused(Refusal::CoresOutside);
     }
-    if is_outside(1, 65_535, two_at(file, 6)) {
+    if is_outside(1, Slots::MAX_PER_PERIOD as u16, two_at(file, 6)) {
         return Finding::Refused(Refusal::SlotsPerPeriodOutside);
     }
-    if is_outside(1, 64, two_at(file, 8)) {
+    if is_outside(1, MOST_INTERVALS, two_at(file, 8)) {
         return Finding::Refused(Refusal::IntervalsOutside);
     }
     Finding::Sound
@@ -120,7 +122,7 @@ pub fn head_fault(file: &[u8]) -> Finding
 
 // The budget of a core, counted from 0, in the interval record at an offset.
 pub fn budget_at(file: &[u8], at: usize, core: u8) -> u16
-    requires { ⌜ core ≤ 8 ⌝ }
+    requires { ⌜ core ≤ mostCores ⌝ }
     requires { ⌜ ListedWithin (now file) at ⌝ }
     ensures { λ r. ⌜ r ≡ budgetAt (now (file .entry)) at core ⌝ }
 {
@@ -134,10 +136,10 @@ pub fn budget_at(file: &[u8], at: usize, core: u8) -> u16
 }
 
 // The sum of the budgets of the interval record at an offset.
-fn budgets_sum(file: &[u8], at: usize, cores: u8) -> u32
-    requires { ⌜ cores ≤ 8 ⌝ }
+fn budgets_sum(file: &[u8], at: usize, cores: u8) -> Slots
+    requires { ⌜ cores ≤ mostCores ⌝ }
     requires { ⌜ ListedWithin (now file) at ⌝ }
-    ensures { λ r. ⌜ r ≡ sumOf (rowAt cores (now (file .entry)) at) ⌝ }
+    ensures { λ r. ⌜ r .0 ≡ sumOf (rowAt cores (now (file .entry)) at) ⌝ }
 {
     let mut sum: u32 = 0;
     let mut core: u8 = 0;
@@ -145,7 +147,7 @@ fn budgets_sum(file: &[u8], at: usize, cores: u8) -> u32
         sum += budget_at(file, at, core) as u32;
         core += 1;
     }
-    sum
+    Slots(sum)
 }
 
 // One of the first listed budgets is 0.
@@ -165,7 +167,7 @@ fn listed_zero(file: &[u8], at: usize, count: usize) -> bool
 
 // The values of an interval: 4, then 5.
 fn interval_values_fault(file: &[u8], at: usize, cores: u8, each: Slots, passed: Periods) -> Finding
-    requires { ⌜ cores ≤ 8 ⌝ }
+    requires { ⌜ cores ≤ mostCores ⌝ }
     requires { ⌜ ListedWithin (now file) at ⌝ }
     ensures { λ r. ⌜ numberFound r
         ≡ intervalRefusal (each .0) (passed .0) (twoAt (now (file .entry)) (at + 6)) (rowAt cores (now (file .entry)) at) ⌝ }
@@ -177,7 +179,7 @@ fn interval_values_fault(file: &[u8], at: usize, cores: u8, each: Slots, passed:
     if Periods::MAX - passed.0 < periods {
         return Finding::Refused(Refusal::PeriodsOutside);
     }
-    if budgets_sum(file, at, cores) != each.0 {
+    if budgets_sum(file, at, cores).0 != each.0 {
         return Finding::Refused(Refusal::BudgetsNotWhole);
     }
     Finding::Sound
@@ -185,7 +187,7 @@ fn interval_values_fault(file: &[u8], at: usize, cores: u8, each: Slots, passed:
 
 // The body of an interval record: 23, 22, 24, then its values.
 fn interval_body_fault(file: &[u8], at: usize, cores: u8, each: Slots, passed: Periods) -> Finding
-    requires { ⌜ cores ≤ 8 ⌝ }
+    requires { ⌜ cores ≤ mostCores ⌝ }
     requires { ⌜ startFault (now file) at 2 false ≡ 0 ⌝ }
     ensures { λ r. ⌜ IsIntervalFault (now (file .entry)) at cores (each .0) (passed .0) (numberFound r) ⌝ }
 {
@@ -208,7 +210,7 @@ fn interval_body_fault(file: &[u8], at: usize, cores: u8, each: Slots, passed: P
 
 // The interval record at an offset, with so many periods before it.
 pub fn interval_fault(file: &[u8], at: usize, cores: u8, each: Slots, passed: Periods) -> Finding
-    requires { ⌜ cores ≤ 8 ⌝ }
+    requires { ⌜ cores ≤ mostCores ⌝ }
     requires { ⌜ at ≤ length (now file) ⌝ }
     ensures { λ r. ⌜ IsIntervalFault (now (file .entry)) at cores (each .0) (passed .0) (numberFound r) ⌝ }
 {

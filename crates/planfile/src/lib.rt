@@ -21,6 +21,15 @@ mod faults; // faults.rt: what a record is refused for
 mod reader; // reader.rt: a whole file judged, and its values filled into lent places
 mod writer; // writer.rt: the bytes of a file
 
+// Cores: 1 to 8.
+const MOST_CORES: u16 = 8;
+
+// Intervals: 1 to 64.
+const MOST_INTERVALS: u16 = 64;
+
+// Workloads: 0 to 256.
+const MOST_WORKLOADS: usize = 256;
+
 // What a sound file holds, beside the values in the lent places.
 pub struct Contents {
     pub cores: u8,
@@ -105,7 +114,7 @@ pub fn write(
     each: Slots,
     lengths: &[u16],
     budgets: &[u16],
-    workcores: &[u8],
+    analysed: &[u8],
     computing: &[u32],
     requests: &[u32],
     horizons: &[u16],
@@ -117,7 +126,7 @@ pub fn write(
         (each .0)
         (now (lengths .entry))
         (now (budgets .entry))
-        (now (workcores .entry))
+        (now (analysed .entry))
         (now (computing .entry))
         (now (requests .entry))
         (now (horizons .entry)))
@@ -128,15 +137,15 @@ pub fn write(
     if let Judgement::Refused(refusal) = plan(cores, each, lengths, budgets) {
         return WriteAnswer::Refused(refusal);
     }
-    if lists_wrong(workcores, computing, requests, horizons) {
+    if lists_wrong(analysed, computing, requests, horizons) {
         return WriteAnswer::Refused(Refusal::TooManyWorkloads);
     }
-    let bytes = 10 + intervals_length(lengths, budgets, cores) + 16 * workcores.len();
+    let bytes = 10 + intervals_length(lengths, budgets, cores) + 16 * analysed.len();
     if place.len() < bytes {
         return WriteAnswer::Refused(Refusal::NoRoom);
     }
     put_head(place, cores, each, lengths.len());
     let start = put_intervals(place, lengths, budgets, cores);
-    put_workloads(place, start, workcores, computing, requests, horizons);
+    put_workloads(place, start, analysed, computing, requests, horizons);
     WriteAnswer::Written(bytes)
 }

@@ -3,10 +3,12 @@ ghost use mathlib.Core.Path.{_≡_};
 ghost use Prim.Native.Nat.{_+_, _*_, _≤_};
 ghost use lib.ListN.{length};
 ghost use lib.Seq.{sets};
+ghost use Rattle.meaning.specs.Plan.{mostCores, mostIntervals};
 ghost use Rattle.meaning.specs.PlanFile.{byteAt, rowAt, headFault};
 ghost use Rattle.planfile.specs.Reading.{HeadRead, IntervalsPassed, WorkloadsPassed, FileJudged, AllListed, intervalAt, planTo, roomFor, workloadsOf, Filled};
 ghost use Rattle.planfile.specs.Faults.{ListedWithin};
 use crate::Contents;
+use crate::MOST_WORKLOADS;
 use crate::ReadAnswer;
 use crate::bytes::four_at;
 use crate::bytes::two_at;
@@ -53,7 +55,7 @@ fn pass_workloads(file: &[u8], start: usize) -> Passed
     let mut at = start;
     let mut count: usize = 0;
     while at < file.len() {
-        if let Finding::Refused(refusal) = workload_fault(file, at, count == 256) {
+        if let Finding::Refused(refusal) = workload_fault(file, at, count == MOST_WORKLOADS) {
             return Passed::Refused(refusal, at);
         }
         at += 16;
@@ -96,7 +98,7 @@ pub fn fits(
     requests: usize,
     horizons: usize,
 ) -> bool
-    requires { ⌜ (found .intervals ≤ 64) × (found .cores ≤ 8) ⌝ }
+    requires { ⌜ (found .intervals ≤ mostIntervals) × (found .cores ≤ mostCores) ⌝ }
     ensures { λ r. ⌜ r
         ≡ roomFor
         (found .intervals)
@@ -129,7 +131,7 @@ pub fn fits(
 
 // The budgets of the interval record at an offset, filled in from a start on.
 fn fill_budgets(file: &[u8], at: usize, cores: u8, budgets: &mut [u16], start: usize)
-    requires { ⌜ cores ≤ 8 ⌝ }
+    requires { ⌜ cores ≤ mostCores ⌝ }
     requires { ⌜ ListedWithin (now file) at ⌝ }
     requires { ⌜ start + cores ≤ length (now budgets) ⌝ }
     ensures { λ r. ⌜ now (budgets .exit) ≡ sets (now (budgets .entry)) start (rowAt cores (now (file .entry)) at) ⌝ }
@@ -149,7 +151,7 @@ pub fn fill_intervals(
     lengths: &mut [u16],
     budgets: &mut [u16],
 ) -> usize
-    requires { ⌜ (cores ≤ 8) × (cores ≡ byteAt (now file) 4) ⌝ }
+    requires { ⌜ (cores ≤ mostCores) × (cores ≡ byteAt (now file) 4) ⌝ }
     requires { ⌜ AllListed (now file) count ⌝ }
     requires { ⌜ (count ≤ length (now lengths)) × (count * cores ≤ length (now budgets)) ⌝ }
     ensures { λ r. ⌜ r ≡ intervalAt (now (file .entry)) count ⌝ }

@@ -7,10 +7,12 @@ ghost use lib.ListN.{length};
 ghost use lib.Seq.{sets};
 ghost use lib.Dec.{eqb};
 ghost use lib.Count.{ones};
+ghost use Rattle.meaning.specs.Plan.{mostCores, mostIntervals};
 ghost use Rattle.meaning.specs.PlanFile.{twoBytes, fourBytes, maskOf, listedOf, workloadRecords, listsWrong};
 ghost use Rattle.planfile.specs.Reading.{workloadsOf};
 ghost use Rattle.laws.specs.Bytes.{headBytes, intervalBytes, workloadBytes};
 ghost use Rattle.planfile.specs.Writing.{rowFrom, recordsOf, startBytes};
+use crate::MOST_WORKLOADS;
 use crate::faults::bit;
 use units::Periods;
 use units::Requests;
@@ -25,7 +27,7 @@ fn listed(budget: u16) -> u32
 
 // The mask of the cores with a budget among those from a start on.
 fn mask_of(budgets: &[u16], start: usize, cores: u8) -> u32
-    requires { ⌜ cores ≤ 8 ⌝ }
+    requires { ⌜ cores ≤ mostCores ⌝ }
     requires { ⌜ start + cores ≤ length (now budgets) ⌝ }
     ensures { λ r. ⌜ (r ≡ maskOf (rowFrom (now (budgets .entry)) start cores)) × (r < 256) ⌝ }
 {
@@ -48,7 +50,7 @@ fn body_length(mask: u32) -> u16
 
 // The length of all interval records.
 pub fn intervals_length(lengths: &[u16], budgets: &[u16], cores: u8) -> usize
-    requires { ⌜ (cores ≤ 8) × (length (now lengths) ≤ 64) ⌝ }
+    requires { ⌜ (cores ≤ mostCores) × (length (now lengths) ≤ mostIntervals) ⌝ }
     requires { ⌜ length (now budgets) ≡ length (now lengths) * cores ⌝ }
     ensures { λ r. ⌜ (r ≡ length (recordsOf cores (now (lengths .entry)) (now (budgets .entry)))) × (r ≤ 1_536) ⌝ }
 {
@@ -68,7 +70,7 @@ pub fn lists_wrong(cores: &[u8], computing: &[u32], requests: &[u32], horizons: 
         ≡ listsWrong
         (workloadsOf (now (cores .entry)) (now (computing .entry)) (now (requests .entry)) (now (horizons .entry))) ⌝ }
 {
-    if 256 < cores.len() {
+    if MOST_WORKLOADS < cores.len() {
         return true;
     }
     if computing.len() != cores.len() {
@@ -132,7 +134,7 @@ fn put_budget(place: &mut [u8], at: usize, budget: u16)
 
 // The listed budgets of the cores from a start on, stored at an offset.
 fn put_budgets(place: &mut [u8], at: usize, budgets: &[u16], start: usize, cores: u8, mask: u32)
-    requires { ⌜ (cores ≤ 8) × (start + cores ≤ length (now budgets)) ⌝ }
+    requires { ⌜ (cores ≤ mostCores) × (start + cores ≤ length (now budgets)) ⌝ }
     requires { ⌜ mask ≡ maskOf (rowFrom (now budgets) start cores) ⌝ }
     requires { ⌜ at + length (listedOf (rowFrom (now budgets) start cores)) ≤ length (now place) ⌝ }
     ensures { λ r. ⌜ now (place .exit)
@@ -155,7 +157,7 @@ fn put_interval(
     start: usize,
     cores: u8,
 ) -> usize
-    requires { ⌜ (cores ≤ 8) × (start + cores ≤ length (now budgets)) ⌝ }
+    requires { ⌜ (cores ≤ mostCores) × (start + cores ≤ length (now budgets)) ⌝ }
     requires { ⌜ at + length (intervalBytes (periods .0) (rowFrom (now budgets) start cores)) ≤ length (now place) ⌝ }
     ensures { λ r. ⌜ r ≡ at + length (intervalBytes (periods .0) (rowFrom (now (budgets .entry)) start cores)) ⌝ }
     ensures { λ r. ⌜ now (place .exit)
@@ -171,7 +173,7 @@ fn put_interval(
 
 // All interval records stored behind the head; the offset behind them.
 pub fn put_intervals(place: &mut [u8], lengths: &[u16], budgets: &[u16], cores: u8) -> usize
-    requires { ⌜ (cores ≤ 8) × (length (now budgets) ≡ length (now lengths) * cores) ⌝ }
+    requires { ⌜ (cores ≤ mostCores) × (length (now budgets) ≡ length (now lengths) * cores) ⌝ }
     requires { ⌜ 10 + length (recordsOf cores (now lengths) (now budgets)) ≤ length (now place) ⌝ }
     ensures { λ r. ⌜ r ≡ 10 + length (recordsOf cores (now (lengths .entry)) (now (budgets .entry))) ⌝ }
     ensures { λ r. ⌜ now (place .exit)

@@ -7,7 +7,7 @@ use lib.ListN.{length}
 use Rattle.meaning.specs.Plan.{Plan, Workload}
 use Rattle.meaning.specs.Span.{firstTerm, NextTerm, Rounds}
 use Rattle.meaning.specs.Refusals.{placementRefusal, spanRefusal}
-use Rattle.meaning.specs.Promises.{PlacementPromise, noSpanFigures, SpanGiven, SpanPromise, written}
+use Rattle.meaning.specs.Promises.{PlacementPromise, noSpanFigures, SpanGiven, SpanPromise}
 use Rattle.laws.specs.Questions.{SoundSpan, sound-placement, sound-span}
 use Rattle.laws.specs.Answers.{judged-refused}
 use Rattle.laws.specs.Terms.{first-holding, RisingTerms, terms-rise, reached-span, reached-none}

@@ -1,9 +1,9 @@
 -- The corners of all intervals of a plan, found one interval after another.
-use mathlib.Core.Path.{_≡_, refl, sym, ap, ap₂, _∙_, subst}
+use mathlib.Core.Path.{_≡_, sym, ap, _∙_, subst}
 use mathlib.Core.Logic.{⊎-elim}
-use mathlib.Core.List.{List, [], _∷_}
+use mathlib.Core.List.{List, []}
 use Prim.Native.Nat.{ℕ, suc, _+_, _-_, _≤_, _<_}
-use native.Mathlib.Nat.{add-zero, lt-irrefl, eq-or-lt-of-le}
+use native.Mathlib.Nat.{lt-irrefl, eq-or-lt-of-le}
 use native.Mathlib.Omega.{arith}
 use lib.ListN.{length, getD, set, replicate, length-set, List·getD-map}
 use lib.Seq.{getD-set-same, getD-set-other}
@@ -18,16 +18,8 @@ use Rattle.curve.specs.Figures.{Holds, HoldsEnvelope}
 use Rattle.curve.specs.Found.{holds-most}
 use Rattle.curve.specs.declared.Block.{Block}
 use Rattle.stall.specs.Blocks.{cornerAt, curveOf, curveAt, Curves}
+use Rattle.stall.specs.Places.{list-of}
 use Rattle.span.specs.Zeros.{zeros, zeros-after}
-
--- a list from what is given for each index of it
-list-of : {A : Type 0} (f : ℕ → A) (d : A) (l : List A) (i : ℕ) → ((j : ℕ) → f (i + j) ≡ getD l j d) → listFrom i (length l) f ≡ l
-unfolding listFrom
-list-of f d [] i each = refl
-list-of f d (a ∷ l) i each =
-    let next : (j : ℕ) → f (suc i + j) ≡ getD l j d =
-    λ j. ap f (omega arith) ∙ each (suc j) in
-    ap₂ _∷_ (ap f (sym (add-zero i)) ∙ each 0) (list-of f d l (suc i) next)
 
 -- the corner at rate 0 without stall, which stands past the end of a block
 noCorner : Corner
@@ -54,7 +46,7 @@ block-curve c b holds =
     let long : b .count - 1 ≡ length (c .rest) = omega (arith, holds .count) in
     let rest : listFrom 1 (b .count - 1) (cornerAt (b .rates) (b .stalls)) ≡ c .rest =
     ap (λ (n : ℕ). listFrom 1 n (cornerAt (b .rates) (b .stalls))) long
-    ∙ list-of (cornerAt (b .rates) (b .stalls)) noCorner (c .rest) 1 each in
+    ∙ list-of noCorner (c .rest) 1 (cornerAt (b .rates) (b .stalls)) (λ k h. each k) in
     λ i. record { first = first i; rest = rest i }
 
 -- the block of an interval, counted from 0

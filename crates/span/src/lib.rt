@@ -242,7 +242,8 @@ fn search(
     }
 }
 
-// The answered placement at W, from the front of the place, and its stall; no plan has slots for a larger one.
+// The answered placement at W, from the front of the place, and its stall. By what is required a plan has slots for the stall, so that
+// it is never Outside.
 fn answer_at(
     picks: &[u64; 512],
     count: usize,

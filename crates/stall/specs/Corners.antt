@@ -1,44 +1,19 @@
--- Laws on the corners of a block: the curve that they give back, and its segments one after another.
-use mathlib.Core.Path.{_≡_, refl, sym, ap, ap₂, _∙_, subst}
-use mathlib.Core.List.{List, _∷_, _++_, map, append-nil}
+-- Laws on the corners of a block: the segments of their curve, written one after another.
+use mathlib.Core.Path.{_≡_, refl, sym, ap, _∙_, subst}
+use mathlib.Core.List.{List, _∷_, _++_, append-nil}
 use Prim.Native.Nat.{ℕ, suc, _+_, _-_, _≤_, _<_}
-use native.Mathlib.Nat.{le-refl, lt-of-lt-of-le, le-of-eq, le-of-lt}
-use native.Mathlib.Numerals.{add-one, one-add}
+use native.Mathlib.Nat.{le-refl, le-of-lt}
+use native.Mathlib.Numerals.{add-one}
 use native.Mathlib.Omega.{arith}
-use lib.ListN.{length, getD, set, length-map, List·getD-append, List·getD-map}
-use Rattle.meaning.specs.Curve.{Corner, Curve, count, rates, stalls, blockOf}
+use lib.ListN.{length, set}
+use Rattle.meaning.specs.Curve.{Corner}
 use Rattle.laws.specs.Indexed.{listFrom}
 use Rattle.laws.specs.Filling.{Pick}
 use Rattle.laws.specs.Merging.{picksFrom}
-use Rattle.stall.specs.Blocks.{cornerAt, curveOf, Segments}
+use Rattle.stall.specs.Blocks.{Segments}
 use Rattle.stall.specs.Packed.{pickOf, between}
 use Rattle.stall.specs.Groups.{Kept, Written}
-use Rattle.stall.specs.Places.{list-of, between-none, written-more, kept-stored}
-
--- a number of a corner, read from its block
-block-at : (f : Corner → ℕ) (d a : Corner) (cs : List Corner) (more : List ℕ) (k : ℕ)
-    → k < length cs
-    → getD ((f a ∷ map f cs) ++ more) (1 + k) (f d) ≡ f (getD cs k d)
-block-at f d a cs more k inside =
-    ap (λ (m : ℕ). getD ((f a ∷ map f cs) ++ more) m (f d)) (one-add k)
-    ∙ List·getD-append (map f cs) more (f d) k (lt-of-lt-of-le inside (le-of-eq (sym (length-map cs f))))
-    ∙ List·getD-map f cs k d
-
--- a curve is what its blocks of nine hold
-pub curve-block : (c : Curve) → curveOf (count c) (blockOf (rates c)) (blockOf (stalls c)) ≡ c
-curve-block c =
-    let a = c .first in
-    let cs = c .rest in
-    let d : Corner = record { rate = 0; stall = 0 } in
-    let rest =
-    list-of d cs 1 (cornerAt (blockOf (rates c)) (blockOf (stalls c)))
-    (λ k inside.
-    ap₂ {A = ℕ} {B = ℕ} {C = Corner} (λ r s. record { rate = r; stall = s })
-    (block-at (λ (b : Corner). b .rate) d a cs _ k inside)
-    (block-at (λ (b : Corner). b .stall) d a cs _ k inside)) in
-    let length : suc (length cs) - 1 ≡ length cs = omega arith in
-    ap {B = Curve} (λ (l : List Corner). record { first = a; rest = l })
-    (ap (λ (n : ℕ). listFrom 1 n (cornerAt (blockOf (rates c)) (blockOf (stalls c)))) length ∙ rest)
+use Rattle.stall.specs.Places.{between-none, written-more, kept-stored}
 
 -- where the writing of a curve's segments stands: so many are written, and the corners from there on are left
 pub record Along (i corners : ℕ) (corner : ℕ → Corner) (before after : List ℕ) (start at k : ℕ) : Type 0 where

@@ -15,6 +15,12 @@ use units::MadeSlots;
 use units::Requests;
 use units::Slots;
 
+// A segment is packed into one number: its interval below its run, which begins at 2^16 and is below 2^16 itself.
+const RUN_PLACE: u64 = 65_536;
+
+// Above the run stands the rise, which begins at 2^32.
+const RISE_PLACE: u64 = 4_294_967_296;
+
 // The segments of all intervals in the order of filling: the first count of the places.
 pub struct Ordered {
     pub picks: [u64; 512],
@@ -46,14 +52,14 @@ fn interval_of(segment: u64) -> usize
 fn run_of(segment: u64) -> Requests
     ensures { λ r. ⌜ (r .0 ≡ pickOf segment .run) × (r .0 ≤ 65_535) ⌝ }
 {
-    Requests((segment / 65_536 % 65_536) as u32)
+    Requests((segment / RUN_PLACE % RUN_PLACE) as u32)
 }
 
 // The rise of a packed segment.
 fn rise_of(segment: u64) -> Slots
     ensures { λ r. ⌜ (r .0 ≡ pickOf segment .rise) × (r .0 ≤ 4_294_967_295) ⌝ }
 {
-    Slots((segment / 4_294_967_296) as u32)
+    Slots((segment / RISE_PLACE) as u32)
 }
 
 // A segment packed into one number.
@@ -61,7 +67,7 @@ fn packed(rise: Slots, run: Requests, interval: usize) -> u64
     requires { ⌜ (rise .0 ≤ 65_535) × (run .0 ≤ 65_535) × (interval < 64) ⌝ }
     ensures { λ r. ⌜ pickOf r ≡ record { interval = interval; run = run .0; rise = rise .0 } ⌝ }
 {
-    rise.0 as u64 * 4_294_967_296 + run.0 as u64 * 65_536 + interval as u64
+    rise.0 as u64 * RISE_PLACE + run.0 as u64 * RUN_PLACE + interval as u64
 }
 
 // A rise times a run, by which slopes are compared.
@@ -71,7 +77,7 @@ fn crossed(rise: Slots, run: Requests) -> u64
     rise.0 as u64 * run.0 as u64
 }
 
-// What the numbers of an interval's block gain from one corner to the next.
+// What the numbers of an interval's block gain from one corner to the next: rates and stalls alike, so the caller names the unit.
 fn gained(blocks: &[[u16; 9]; 64], interval: usize, k: usize) -> u32
     requires { ⌜ (interval < 64) × (k < 8) × (getD (getD (now blocks) interval []) k 0 ≤ getD (getD (now blocks) interval []) (k + 1) 0) ⌝ }
     ensures { λ r. ⌜ (r ≡ getD (getD (now (blocks .entry)) interval []) (k + 1) 0 - getD (getD (now (blocks .entry)) interval []) k 0) × (r ≤ 65_535) ⌝ }
@@ -205,7 +211,7 @@ pub fn order(
     Ordered { picks, count }
 }
 
-// The stall of so many requests on a segment, rounded up to a whole slot.
+// The stall of so many requests on a segment, rounded up to a whole slot: a number of slots that may be past what the unit holds.
 fn part(requests: Requests, rise: Slots, run: Requests) -> u64
     requires { ⌜ 1 ≤ run .0 ⌝ }
     ensures { λ r. ⌜ r ≡ roundUp (record { num = requests .0 * rise .0; den = run .0 }) ⌝ }

@@ -2,9 +2,6 @@
 use Prim.Native.Nat.{ℕ, _+_, _-_, _/_}
 use mathlib.Core.Bool.{Bool, true, false, not, _&&_}
 use lib.Dec.{leb, eqb}
-use Rattle.units.specs.declared.Slots.{Slots}
-use Rattle.units.specs.declared.Periods.{Periods}
-use Rattle.units.specs.declared.Requests.{Requests}
 use Rattle.units.specs.declared.MadeSlots.{MadeSlots}
 use Rattle.units.specs.declared.MadePeriods.{MadePeriods}
 use Rattle.units.specs.declared.MadeRequests.{MadeRequests}

@@ -15,7 +15,7 @@ use std::io::{self, BufWriter, Write};
 use std::path::Path;
 use std::process::ExitCode;
 
-const USAGE: &str = "usage: generate questions | small | runs SEED COUNT [FIRST]
+const USAGE: &str = "usage: generate questions | stored | small | runs SEED COUNT [FIRST]
        generate files SEED COUNT DIR
        generate measured DIR";
 
@@ -49,6 +49,7 @@ fn run(words: &[&str]) -> Option<io::Result<()>> {
         [mode, seed, count, first @ ..] => {
             let stream: Stream = match *mode {
                 "questions" => questions::mixed,
+                "stored" => questions::stored,
                 "small" => questions::small,
                 "runs" => questions::for_runs,
                 _ => return None,

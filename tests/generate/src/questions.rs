@@ -17,6 +17,11 @@ const WRITE: u8 = 6;
 /// One in so many questions is a search of very many rounds.
 const MANY_ROUNDS_ONE_IN: u64 = 400;
 
+/// One in so many of the stored questions has any size; the others' records
+/// have at most so many bytes.
+const ANY_SIZE_ONE_IN: u64 = 40;
+const SMALL_RECORD: usize = 120;
+
 /// Plans for the plain search have at most so many placements.
 const MOST_PLACEMENTS: u64 = 20_000;
 
@@ -139,13 +144,43 @@ pub fn mixed(seed: u64, number: u64) -> Vec<u8> {
     if random.one_in(MANY_ROUNDS_ONE_IN) {
         return many_rounds(random).record();
     }
+    let kind = some_kind(random);
+    of_kind(random, kind)
+}
+
+/// Question `number` of the stored stream: as many of each kind as in the
+/// mixed stream, and most of them small.
+pub fn stored(seed: u64, number: u64) -> Vec<u8> {
+    let random = &mut Random::new(seed, number);
+    if random.one_in(MANY_ROUNDS_ONE_IN) {
+        return many_rounds(random).record();
+    }
+    let kind = some_kind(random);
+    let any_size = random.one_in(ANY_SIZE_ONE_IN);
+    loop {
+        let record = of_kind(random, kind);
+        if any_size || record.len() <= SMALL_RECORD {
+            return record;
+        }
+    }
+}
+
+fn some_kind(random: &mut Random) -> u8 {
     match random.below(14) {
-        0 | 1 => asked(random, RAW).record(),
-        2 | 3 => asked(random, CORNERS).record(),
-        4 | 5 => asked(random, PLACEMENT).record(),
-        6..=9 => asked(random, SPAN).record(),
-        10 | 11 => reading(random),
-        _ => writing(random),
+        0 | 1 => RAW,
+        2 | 3 => CORNERS,
+        4 | 5 => PLACEMENT,
+        6..=9 => SPAN,
+        10 | 11 => READ,
+        _ => WRITE,
+    }
+}
+
+fn of_kind(random: &mut Random, kind: u8) -> Vec<u8> {
+    match kind {
+        READ => reading(random),
+        WRITE => writing(random),
+        _ => asked(random, kind).record(),
     }
 }
 

@@ -21,35 +21,45 @@ wide-requires c κs = search needs
 sum-of-smaller-requires : tie.Need-sum-of-smaller-requires
 sum-of-smaller-requires c κs = search needs
 
--- below the core's budget: the sum less the rate
-below : (c : tie.After-struct-known3)
-    → let args = c .before .before .before .before .before .before .before .before .args in
-    let sum = c .before .before .sum-of-smaller .result .0 in
-    (args .rate .0 ≤ sum) × (sum - args .rate .0 ≡ raw (args .each .0) (args .row .now) (args .core) (args .rate .0))
+slots-requires : tie.Need-slots-requires
+slots-requires c κs = search needs
+
+slots-requires-2 : tie.Need-slots-requires-2
+slots-requires-2 c κs = search needs
+
+-- below the core's budget: the sum less the rate's slots
+below : (c : tie.After-struct-known4)
+    → let args = c .before .before .before .before .before .before .before .before .before .before .args in
+    let sum = c .before .before .before .sum-of-smaller .result .0 in
+    let slots = c .before .before .slots .result .0 in
+    (slots ≤ sum) × (sum - slots ≡ raw (args .each .0) (args .row .now) (args .core) (args .rate .0))
 below c =
-    let found = c .before .before .before .before .before in
+    let summed = c .before .before .before in
+    let found = summed .before .before .before .before in
     let start = found .before .before .before in
     let args = start .args in
-    raw-of-sum (args .each .0) (args .core) (args .row .now) (args .rate .0) (found .wide .result) (start .pre) (found .wide .ensures .0)
-    (c .before .before .sum-of-smaller .result .0) (search needs) (c .before .before .sum-of-smaller .ensures)
+    rw (c .before .before .slots .ensures)
+    (raw-of-sum (args .each .0) (args .core) (args .row .now) (args .rate .0) (found .wide .result) (start .pre) (found .wide .ensures .0)
+    (summed .sum-of-smaller .result .0) (summed .before .if1 .taken) (summed .sum-of-smaller .ensures))
 
--- from the core's budget on: the period less the budget
-full : (c : tie.After-struct-known4)
-    → let args = c .before .before .before .before .before .before .args in
-    let budget = c .before .before .before .wide .result in
-    (budget ≤ args .each .0) × (args .each .0 - budget ≡ raw (args .each .0) (args .row .now) (args .core) (args .rate .0))
+-- from the core's budget on: the period less the budget's slots
+full : (c : tie.After-struct-known6)
+    → let args = c .before .before .before .before .before .before .before .before .before .args in
+    let slots = c .before .before .slots2 .result .0 in
+    (slots ≤ args .each .0) × (args .each .0 - slots ≡ raw (args .each .0) (args .row .now) (args .core) (args .rate .0))
 full c =
-    let found = c .before .before .before in
+    let found = c .before .before .before .before .before .before in
     let start = found .before .before .before in
     let args = start .args in
-    raw-of-rest (args .each .0) (args .core) (args .row .now) (args .rate .0) (found .wide .result) (start .pre) (found .wide .ensures .0)
-    (search needs)
+    rw (c .before .before .slots2 .ensures)
+    (raw-of-rest (args .each .0) (args .core) (args .row .now) (args .rate .0) (found .wide .result) (start .pre) (found .wide .ensures .0)
+    (c .before .before .before .if1 .left))
 
-sub-t13 : tie.Need-sub-t13
-sub-t13 c = below c .0
+sub-t15 : tie.Need-sub-t15
+sub-t15 c = below c .0
 
-sub-t14 : tie.Need-sub-t14
-sub-t14 c = full c .0
+sub-t17 : tie.Need-sub-t17
+sub-t17 c = full c .0
 
 returns : tie.Need-returns
 returns c = below c .1
@@ -66,7 +76,9 @@ raw-at-spec =
     shared-slice-read-wide
     wide-requires
     sum-of-smaller-requires
-    sub-t13
-    sub-t14
+    slots-requires
+    sub-t15
+    slots-requires-2
+    sub-t17
     returns
     returns-2)

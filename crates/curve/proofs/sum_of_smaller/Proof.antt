@@ -18,18 +18,21 @@ abbrev μ-loop : tie.MeasureT-loop
 loop-holds : tie.Need-loop-holds Inv-loop μ-loop
 loop-holds c = omega arith
 
-mul-smaller : tie.Need-mul-smaller Inv-loop μ-loop
-mul-smaller c = search needs
+mul-wide : tie.Need-mul-wide Inv-loop μ-loop
+mul-wide c = search needs
 
-shared-slice-read-smaller : tie.Need-shared-slice-read-smaller Inv-loop μ-loop
-shared-slice-read-smaller c = search needs
+shared-slice-read-wide : tie.Need-shared-slice-read-wide Inv-loop μ-loop
+shared-slice-read-wide c = search needs
+
+wide-requires : tie.Need-wide-requires Inv-loop μ-loop
+wide-requires c κs = search needs
 
 smaller-requires : tie.Need-smaller-requires Inv-loop μ-loop
 smaller-requires c κs = search needs
 
 add-sum : tie.Need-add-sum Inv-loop μ-loop
 add-sum c =
-    let turn = c .before .before .before .before in
+    let turn = c .before .before .before .before .before in
     let rate = turn .before .before .args .rate .0 in
     let row = turn .before .before .args .row .now in
     omega (arith, smaller-from rate (turn .loop .i) row (search needs), smaller-le-sum row rate)
@@ -42,7 +45,7 @@ loop-less c = search needs
 
 loop-again : tie.Need-loop-again Inv-loop μ-loop
 loop-again c =
-    let turn = c .before .before .before .before in
+    let turn = c .before .before .before .before .before in
     let args = turn .before .before .args in
     omega (arith, smaller-from (args .rate .0) (turn .loop .i) (args .row .now) (search needs))
 
@@ -58,8 +61,9 @@ sum-of-smaller-spec =
     Inv-loop
     μ-loop
     loop-holds
-    mul-smaller
-    shared-slice-read-smaller
+    mul-wide
+    shared-slice-read-wide
+    wide-requires
     smaller-requires
     add-sum
     add-i

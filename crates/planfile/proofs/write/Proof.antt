@@ -5,9 +5,9 @@ use native.Mathlib.Omega.{arith}
 use lib.ListN.{length}
 use borrow.Author.Needs.{needs}
 use Rattle.meaning.specs.Refusals.{planRefusal}
-use Rattle.meaning.specs.PlanFile.{PlanFile, listsWrong, fileOf}
+use Rattle.meaning.specs.PlanFile.{PlanFile, listsWrong, fileOf, RightLists}
 use Rattle.laws.specs.Judging.{SoundPlan, sound-plan}
-use Rattle.laws.specs.Records.{RightLists, right-lists}
+use Rattle.laws.specs.Records.{right-lists}
 use Rattle.judge.specs.Judged.{PlanJudged}
 use Rattle.planfile.specs.Writing.{fileGiven}
 use Rattle.planfile.specs.Written.{plan-refused, lists-refused, room-refused, file-written, file-length, file-stored}
@@ -29,7 +29,7 @@ given c =
     (a .each .0)
     (a .lengths .now)
     (a .budgets .now)
-    (a .workcores .now)
+    (a .analysed .now)
     (a .computing .now)
     (a .requests .now)
     (a .horizons .now)
@@ -90,7 +90,7 @@ intervals-length-requires c κs =
 -- the bytes are counted
 counted : (c : tie.After-intervals-length)
     → let start = c .before .before .before .before .before .before .before .before .before .before .before .before .before in
-    10 + c .intervals-length .result + 16 * length (start .args .workcores .now) ≡ length (fileOf (given start))
+    10 + c .intervals-length .result + 16 * length (start .args .analysed .now) ≡ length (fileOf (given start))
 counted c =
     let start =
     c .before .before .before .before .before .before .before .before .before .before .before .before .before in

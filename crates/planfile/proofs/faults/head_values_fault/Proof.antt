@@ -52,6 +52,9 @@ of-cores c =
     let w = c .before in
     rw (of-bits (w .before .before .before), cores-answered w ∙ c .if2 .left)
 
+cast-is-outside : tie.Need-cast-is-outside
+cast-is-outside c = search needs
+
 two-at-requires : tie.Need-two-at-requires
 two-at-requires c κs = omega (arith, head-within _ (c .before .before .before .before .before .before .before .pre))
 
@@ -111,6 +114,7 @@ head-values-fault-spec =
     wide-requires
     is-outside-requires
     returns-2
+    cast-is-outside
     two-at-requires
     is-outside-requires-2
     returns-3

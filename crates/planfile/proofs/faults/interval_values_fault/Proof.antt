@@ -53,12 +53,12 @@ of-periods c =
 
 returns-3 : tie.Need-returns-3
 returns-3 c =
-    let call = c .before .before in
+    let call = c .before .before .before in
     rw (of-periods (call .before), ne-eqb _ _ (rw (call .budgets-sum .ensures) at (c .if3 .taken)))
 
 returns-4 : tie.Need-returns-4
 returns-4 c =
-    let call = c .before .before in
+    let call = c .before .before .before in
     rw (of-periods (call .before), eq-eqb _ _ (sym (call .budgets-sum .ensures) ∙ c .if3 .left))
 
 pub interval-values-fault-spec : {M : Type 1} → statement M

@@ -1,0 +1,117 @@
+-- The program's listing: every file has one, and only one, and the lines of its workloads make it.
+use mathlib.Core.Path.{_≡_, refl, sym, ap, ap₂, _∙_, subst}
+use mathlib.Core.List.{List, [], _++_, append-assoc}
+use Prim.Native.Nat.{ℕ, zero, suc, _+_, _≤_, _<_}
+use native.Mathlib.Nat.{add-zero, le-refl, le-of-suc-le}
+use native.Mathlib.Omega.{arith}
+use lib.ListN.{length}
+use Rattle.meaning.specs.Plan.{intervals}
+use Rattle.meaning.specs.PlanFile.{Reading, PlanFile, readFile}
+use Rattle.meaning.specs.Promises.{SpanFigures}
+use Rattle.meaning.specs.Listing.{planLine, endLine, fileRefusedLine, answerLine, workloadAt, WorkloadText, Lines, ListingOf, Listing}
+use Rattle.laws.specs.Questions.{span-answer-exists, span-answer-unique}
+
+-- every workload has a line
+workload-text-exists : (f : PlanFile) (k : ℕ) → (text : List ℕ) × WorkloadText f k text
+workload-text-exists f k =
+    let found = span-answer-exists (f .plan) (workloadAt (f .workloads) k) (intervals (f .plan)) in
+    let text = answerLine (suc k) (found .0) (found .1) (found .0 .refused) in
+    (text, (found .0, found .1, found .2, refl))
+
+-- and only one
+workload-text-unique : (f : PlanFile) (k : ℕ) (s t : List ℕ) → WorkloadText f k s → WorkloadText f k t → s ≡ t
+workload-text-unique f k s t (a, xs, given, line) (b, ys, given′, line′) =
+    let same = span-answer-unique (f .plan) (workloadAt (f .workloads) k) (intervals (f .plan)) a b xs ys given given′ in
+    line ∙ ap₂ (λ (c : SpanFigures) (zs : List ℕ). answerLine (suc k) c zs (c .refused)) (same .0) (same .1) ∙ sym line′
+
+-- line k, line (k + 1), and so on, n of them, one behind the other
+unfoldable pub linesFrom : ℕ → ℕ → (ℕ → List ℕ) → List ℕ
+linesFrom k zero line = []
+linesFrom k (suc n) line = line k ++ linesFrom (suc k) n line
+
+-- the lines of n workloads from the k-th on, with the last line behind them
+lines-from : (f : PlanFile) (k n : ℕ) (line : ℕ → List ℕ)
+    → ((j : ℕ) → k ≤ j → j < k + n → WorkloadText f j (line j))
+    → Lines f k n (linesFrom k n line ++ endLine (k + n))
+unfolding linesFrom
+lines-from f k zero line each = ap endLine (add-zero k)
+lines-from f k (suc n) line each =
+    let order : k + suc n ≡ suc k + n = omega arith in
+    let later = linesFrom (suc k) n line ++ endLine (suc k + n) in (
+      line k,
+      later,
+      each k (le-refl k) (omega arith),
+      lines-from f (suc k) n line (λ j from to. each j (le-of-suc-le from) (omega (arith, to))),
+      append-assoc (line k) (linesFrom (suc k) n line) (endLine (k + suc n))
+          ∙ ap (λ (m : ℕ). line k ++ (linesFrom (suc k) n line ++ endLine m)) order,
+    )
+
+-- the lines of n workloads from the k-th on are one text
+lines-unique : (f : PlanFile) (k n : ℕ) (s t : List ℕ) → Lines f k n s → Lines f k n t → s ≡ t
+lines-unique f k zero s t hs ht = hs ∙ sym ht
+lines-unique f k (suc n) s t (line, later, text, lines, whole) (line′, later′, text′, lines′, whole′) =
+    whole
+    ∙ ap₂ _++_ (workload-text-unique f k line line′ text text′) (lines-unique f (suc k) n later later′ lines lines′)
+    ∙ sym whole′
+
+-- what was found to be sound is listed by the plan's line, the lines of its workloads and the last line
+sound-listing : (f : PlanFile) (line : ℕ → List ℕ)
+    → ((k : ℕ) → k < length (f .workloads .cores) → WorkloadText f k (line k))
+    → ListingOf
+    (Reading.sound f)
+    (planLine (f .plan) ++ (linesFrom 0 (length (f .workloads .cores)) line ++ endLine (length (f .workloads .cores))))
+sound-listing f line each =
+    let n = length (f .workloads .cores) in
+    let none : 0 + n ≡ n = omega arith in
+    let text = linesFrom 0 n line ++ endLine n in (
+      text,
+      subst
+          (λ (m : ℕ). Lines f 0 n (linesFrom 0 n line ++ endLine m))
+          none
+          (lines-from f 0 n line (λ j from to. each j (omega (arith, to)))),
+      refl,
+    )
+
+-- the plan's line, the lines of all workloads in order and the last line are the listing of a sound file
+pub listing-of-lines : (file : List ℕ) (f : PlanFile) (line : ℕ → List ℕ)
+    → readFile file ≡ Reading.sound f
+    → ((k : ℕ) → k < length (f .workloads .cores) → WorkloadText f k (line k))
+    → Listing
+    file
+    (planLine (f .plan) ++ (linesFrom 0 (length (f .workloads .cores)) line ++ endLine (length (f .workloads .cores))))
+listing-of-lines file f line e each =
+    subst
+    (λ (r : Reading).
+    ListingOf
+    r
+    (planLine (f .plan) ++ (linesFrom 0 (length (f .workloads .cores)) line ++ endLine (length (f .workloads .cores)))))
+    (sym e)
+    (sound-listing f line each)
+
+-- whatever a file was found to hold has a listing
+listing-found : (r : Reading) → (text : List ℕ) × ListingOf r text
+listing-found (Reading.refused n offset) = (fileRefusedLine n offset, refl)
+listing-found (Reading.sound f) =
+    let line : ℕ → List ℕ = λ k. workload-text-exists f k .0 in
+    let n = length (f .workloads .cores) in (
+      planLine (f .plan) ++ (linesFrom 0 n line ++ endLine n),
+      sound-listing f line (λ k inside. workload-text-exists f k .1),
+    )
+
+-- every file has a listing
+pub listing-exists : (file : List ℕ) → (text : List ℕ) × Listing file text
+listing-exists file = listing-found (readFile file)
+
+-- and only one
+listing-same : (r : Reading) (s t : List ℕ) → ListingOf r s → ListingOf r t → s ≡ t
+listing-same (Reading.refused n offset) s t hs ht = hs ∙ sym ht
+listing-same (Reading.sound f) s t (later, lines, whole) (later′, lines′, whole′) =
+    whole
+    ∙ ap
+    (λ (text : List ℕ). planLine (f .plan) ++ text)
+    (lines-unique f 0 (length (f .workloads .cores)) later later′ lines lines′)
+    ∙ sym whole′
+
+-- two listings of a file are the same
+pub listing-unique : (file s t : List ℕ) → Listing file s → Listing file t → s ≡ t
+listing-unique file s t hs ht = listing-same (readFile file) s t hs ht

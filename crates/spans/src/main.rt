@@ -1,0 +1,242 @@
+// The program `spans`: one plan file from standard input, and its listing on standard output, each line in one call.
+ghost use Prim.Native.Nat.{_≤_, _<_};
+ghost use lib.ListN.{length};
+ghost use Rattle.meaning.specs.Plan.{mostIntervals};
+ghost use Rattle.listing.specs.Promise.{room};
+ghost use Rattle.planfile.specs.Reading.{placesOf, workloadsOf};
+ghost use Rattle.planfile.specs.Answering.{Room};
+ghost use Rattle.planfile.specs.Writing.{fileGiven};
+ghost use Rattle.spans.specs.Found.{Counted};
+ghost use Rattle.spans.specs.Lines.{Within, Listed, WorkloadLine};
+use libc::STDIN_FILENO;
+use libc::STDOUT_FILENO;
+use listing::Line;
+use planfile::Contents;
+use planfile::ReadAnswer;
+use span::SpanAnswer;
+use units::Periods;
+use units::Refusal;
+use units::Requests;
+use units::Slots;
+
+// A line as it was built, written in one call.
+fn print(line: &[u8], built: Line)
+    requires { ⌜ Within built (now line) ⌝ }
+{
+    let Line::Length(length) = built else {
+        return;
+    };
+    io::write_all(STDOUT_FILENO, &line[..length]);
+}
+
+// The line of the workload at an index: what the question "span" answers for it.
+fn workload_line(
+    index: u16,
+    cores: u8,
+    each: Slots,
+    lengths: &[u16],
+    budgets: &[u16],
+    analysed: &[u8],
+    computing: &[u32],
+    requests: &[u32],
+    horizons: &[u16],
+    place: &mut [u32],
+    line: &mut [u8],
+) -> Line
+    requires { ⌜ index < length (now analysed) ⌝ }
+    requires { ⌜ Listed (now lengths) (workloadsOf (now analysed) (now computing) (now requests) (now horizons)) (now place) ⌝ }
+    ensures { λ r. ⌜ WorkloadLine
+        (fileGiven
+        cores
+        (each .0)
+        (now (lengths .entry))
+        (now (budgets .entry))
+        (now (analysed .entry))
+        (now (computing .entry))
+        (now (requests .entry))
+        (now (horizons .entry)))
+        index
+        (now (line .entry))
+        r
+        (now (line .exit)) ⌝ }
+{
+    let i = index as usize;
+    let answer = span::span(
+        cores,
+        each,
+        lengths,
+        budgets,
+        analysed[i],
+        Slots(computing[i]),
+        Requests(requests[i]),
+        Periods(horizons[i]),
+        place,
+    );
+    match answer {
+        SpanAnswer::Refused(refusal) => listing::refused_line(index + 1, refusal, line),
+        SpanAnswer::Found {
+            span,
+            stall,
+            rounds,
+        } => listing::span_line(index + 1, span, stall, rounds, place, line),
+    }
+}
+
+// The lines of all workloads.
+fn print_workloads(
+    cores: u8,
+    each: Slots,
+    lengths: &[u16],
+    budgets: &[u16],
+    analysed: &[u8],
+    computing: &[u32],
+    requests: &[u32],
+    horizons: &[u16],
+    place: &mut [u32],
+    line: &mut [u8],
+)
+    requires { ⌜ room ≤ length (now line) ⌝ }
+    requires { ⌜ Listed (now lengths) (workloadsOf (now analysed) (now computing) (now requests) (now horizons)) (now place) ⌝ }
+{
+    let mut index: u16 = 0;
+    while (index as usize) < analysed.len() {
+        let built = workload_line(
+            index,
+            cores,
+            each,
+            lengths,
+            budgets,
+            analysed,
+            computing,
+            requests,
+            horizons,
+            place,
+            line,
+        );
+        print(line, built);
+        index += 1;
+    }
+}
+
+// The first line.
+fn print_plan(cores: u8, each: Slots, lengths: &[u16], line: &mut [u8])
+    requires { ⌜ (length (now lengths) ≤ mostIntervals) × (room ≤ length (now line)) ⌝ }
+{
+    let built = listing::plan_line(cores, each, lengths, line);
+    print(line, built);
+}
+
+// The last line.
+fn print_end(count: u16, line: &mut [u8])
+    requires { ⌜ room ≤ length (now line) ⌝ }
+{
+    let built = listing::end_line(count, line);
+    print(line, built);
+}
+
+// The single line of a refused file.
+fn print_file_refused(refusal: Refusal, offset: u32, line: &mut [u8])
+    requires { ⌜ room ≤ length (now line) ⌝ }
+{
+    let built = listing::file_refused_line(refusal, offset, line);
+    print(line, built);
+}
+
+// The listing of a file that was read into these places.
+fn print_found(
+    found: Contents,
+    lengths: &[u16],
+    budgets: &[u16],
+    analysed: &[u8],
+    computing: &[u32],
+    requests: &[u32],
+    horizons: &[u16],
+    place: &mut [u32],
+    line: &mut [u8],
+)
+    requires { ⌜ Counted found × (mostIntervals ≤ length (now place)) × (room ≤ length (now line)) ⌝ }
+    requires { ⌜ Room
+        found
+        (placesOf (now lengths) (now budgets) (now analysed) (now computing) (now requests) (now horizons)) ⌝ }
+{
+    let intervals = found.intervals;
+    let count = found.workloads;
+    let numbers = intervals * found.cores as usize;
+    print_plan(found.cores, found.each, &lengths[..intervals], line);
+    print_workloads(
+        found.cores,
+        found.each,
+        &lengths[..intervals],
+        &budgets[..numbers],
+        &analysed[..count],
+        &computing[..count],
+        &requests[..count],
+        &horizons[..count],
+        &mut place[..intervals],
+        line,
+    );
+    print_end(count as u16, line);
+}
+
+// The listing of a file, which is read into the places.
+fn print_listing(
+    file: &[u8],
+    lengths: &mut [u16],
+    budgets: &mut [u16],
+    analysed: &mut [u8],
+    computing: &mut [u32],
+    requests: &mut [u32],
+    horizons: &mut [u16],
+    place: &mut [u32],
+    line: &mut [u8],
+)
+    requires { ⌜ (length (now file) ≤ 8_192) × (mostIntervals ≤ length (now place)) × (room ≤ length (now line)) ⌝ }
+{
+    match planfile::read(
+        file,
+        lengths,
+        budgets,
+        analysed,
+        computing,
+        requests,
+        horizons,
+    ) {
+        ReadAnswer::Refused(refusal, offset) => print_file_refused(refusal, offset as u32, line),
+        ReadAnswer::Sound(found) => print_found(
+            found,
+            lengths,
+            budgets,
+            analysed,
+            computing,
+            requests,
+            horizons,
+            place,
+            line,
+        ),
+    }
+}
+
+// At most 8,192 bytes are read: no longer file is accepted, and every longer one answers the same.
+fn main() {
+    let mut file = [0u8; 8192];
+    let mut lengths = [0u16; 64];
+    let mut budgets = [0u16; 512];
+    let mut analysed = [0u8; 256];
+    let mut computing = [0u32; 256];
+    let mut requests = [0u32; 256];
+    let mut horizons = [0u16; 256];
+    let mut place = [0u32; 64];
+    let mut line = [0u8; listing::ROOM];
+    let length = io::read_full(STDIN_FILENO, &mut file);
+    print_listing(
+        &file[..length],
+        &mut lengths,
+        &mut budgets,
+        &mut analysed,
+        &mut computing,
+        &mut requests,
+        &mut horizons,
+        &mut place,
+        &mut line,
+    );
+}
