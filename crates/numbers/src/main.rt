@@ -84,9 +84,31 @@ fn tell_corners(words: &[u8], core: u8, rates: &mut [u16]) {
     }
 }
 
-// What the question "span" answered, with the placement where there is one.
-fn tell_span(answer: SpanAnswer, placement: &[u32]) {
-    match answer {
+// The span of a workload on a plan, with the placement where there is one.
+fn tell_span(
+    words: &[u8],
+    cores: u8,
+    each: Slots,
+    lengths: &[u16],
+    budgets: &[u16],
+    core: u8,
+    computing: Slots,
+    requests: Requests,
+    horizon: Periods,
+    placement: &mut [u32],
+) {
+    say(words);
+    match span::span(
+        cores,
+        each,
+        lengths,
+        budgets,
+        core,
+        computing,
+        requests,
+        horizon,
+        placement,
+    ) {
         SpanAnswer::Found {
             span,
             stall,
@@ -110,8 +132,8 @@ fn span_of_twenty(words: &[u8], core: u8, computing: Slots, requests: Requests, 
     let lengths = [20u16];
     let budgets = [2u16, 2, 5, 7];
     let mut placement = [0u32; 1];
-    say(words);
-    let answer = span::span(
+    tell_span(
+        words,
         4,
         Slots(16),
         &lengths,
@@ -122,7 +144,6 @@ fn span_of_twenty(words: &[u8], core: u8, computing: Slots, requests: Requests, 
         horizon,
         &mut placement,
     );
-    tell_span(answer, &placement);
 }
 
 // A span of one core that is alone, with Q its budget and one interval as long as the horizon.
@@ -130,10 +151,11 @@ fn span_alone(words: &[u8], each: u16, computing: Slots, requests: Requests, hor
     let lengths = [horizon.0];
     let budgets = [each];
     let mut placement = [0u32; 1];
-    say(words);
-    let answer = span::span(
+    let slots = Slots(each as u32);
+    tell_span(
+        words,
         1,
-        Slots(each as u32),
+        slots,
         &lengths,
         &budgets,
         1,
@@ -142,7 +164,6 @@ fn span_alone(words: &[u8], each: u16, computing: Slots, requests: Requests, hor
         horizon,
         &mut placement,
     );
-    tell_span(answer, &placement);
 }
 
 // A span of the listing's plan.
@@ -150,24 +171,44 @@ fn span_of_listing(words: &[u8], horizon: Periods) {
     let lengths = [1u16, 4];
     let budgets = [2u16, 2, 5, 7, 4, 4, 4, 4];
     let mut placement = [0u32; 2];
-    say(words);
-    let answer = span::span(
+    let requests = Requests(10);
+    tell_span(
+        words,
         4,
         Slots(16),
         &lengths,
         &budgets,
         3,
         Slots(10),
-        Requests(10),
+        requests,
         horizon,
         &mut placement,
     );
-    tell_span(answer, &placement);
 }
 
-// What the question "placement and stall at a given W" answered, with the placement.
-fn tell_placement(answer: PlacementAnswer, placement: &[u32]) {
-    match answer {
+// The placement and stall at a given W, with the placement.
+fn tell_placement(
+    words: &[u8],
+    cores: u8,
+    each: Slots,
+    lengths: &[u16],
+    budgets: &[u16],
+    core: u8,
+    requests: Requests,
+    periods: Periods,
+    placement: &mut [u32],
+) {
+    say(words);
+    match span::placement(
+        cores,
+        each,
+        lengths,
+        budgets,
+        core,
+        requests,
+        periods,
+        placement,
+    ) {
         PlacementAnswer::Stall(stall) => {
             say(b" stall");
             tell(stall.0);
@@ -178,80 +219,84 @@ fn tell_placement(answer: PlacementAnswer, placement: &[u32]) {
     }
 }
 
-// The placement of 004's section VI at W = 6: three intervals, core 3, 25 requests.
+// 004's section VI at W = 6: three intervals, core 3, 25 requests.
 fn section_six() {
+    let words = b"004, section VI, at W = 6:";
     let lengths = [5u16, 3, 7];
     let budgets = [2u16, 2, 5, 7, 2, 3, 7, 4, 5, 5, 1, 5];
-    let mut placement = [0u32; 3];
-    say(b"004, section VI, at W = 6:");
-    let answer = span::placement(
+    let mut placed = [0u32; 3];
+    let requests = Requests(25);
+    tell_placement(
+        words,
         4,
         Slots(16),
         &lengths,
         &budgets,
         3,
-        Requests(25),
+        requests,
         Periods(6),
-        &mut placement,
+        &mut placed,
     );
-    tell_placement(answer, &placement);
 }
 
 // 004 prints 9 at rate 3.88; the exact value times 9 periods is 82 1/3, which is 83 whole slots.
 fn exact_fraction() {
+    let words = b"core 3, 35 requests at W = 9, where 9 * 9 would be 81:";
     let lengths = [20u16];
     let budgets = [2u16, 2, 5, 7];
-    let mut placement = [0u32; 1];
-    say(b"core 3, 35 requests at W = 9, where 9 * 9 would be 81:");
-    let answer = span::placement(
+    let mut placed = [0u32; 1];
+    let requests = Requests(35);
+    tell_placement(
+        words,
         4,
         Slots(16),
         &lengths,
         &budgets,
         3,
-        Requests(35),
+        requests,
         Periods(9),
-        &mut placement,
+        &mut placed,
     );
-    tell_placement(answer, &placement);
 }
 
 // Three intervals with one curve: 3 requests in each would stall 7 2/3 each, 24 if rounded up before the total is sought.
 fn rounded_once() {
+    let words = b"three intervals, core 3, 9 requests at W = 3:";
     let lengths = [1u16, 1, 1];
     let budgets = [2u16, 2, 5, 7, 2, 2, 5, 7, 2, 2, 5, 7];
-    let mut placement = [0u32; 3];
-    say(b"three intervals, core 3, 9 requests at W = 3:");
-    let answer = span::placement(
+    let mut placed = [0u32; 3];
+    let requests = Requests(9);
+    tell_placement(
+        words,
         4,
         Slots(16),
         &lengths,
         &budgets,
         3,
-        Requests(9),
+        requests,
         Periods(3),
-        &mut placement,
+        &mut placed,
     );
-    tell_placement(answer, &placement);
 }
 
 // Slopes of 8/5 and 5/3, which are equal as rounded quotients: the second interval is filled first.
 fn unequal_slopes() {
+    let words = b"slopes 8/5 and 5/3, 39 requests:";
     let lengths = [1u16, 1];
     let budgets = [40u16, 64, 39, 65];
-    let mut placement = [0u32; 2];
-    say(b"slopes 8/5 and 5/3, 39 requests:");
-    let answer = span::placement(
+    let mut placed = [0u32; 2];
+    let requests = Requests(39);
+    tell_placement(
+        words,
         2,
         Slots(104),
         &lengths,
         &budgets,
         1,
-        Requests(39),
+        requests,
         Periods(2),
-        &mut placement,
+        &mut placed,
     );
-    tell_placement(answer, &placement);
 }
 
 // The longest file: 64 intervals in which all 8 cores have a budget, and 256 workloads.
