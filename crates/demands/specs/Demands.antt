@@ -7,18 +7,17 @@ use Prim.Native.Nat.{ℕ, _+_, _*_, _≤_, _<_}
 use lib.ListN.{length, take}
 use Rattle.meaning.specs.Fraction.{_≤ᶠ_}
 use Rattle.meaning.specs.Plan.{Plan, Workload, sumOf, intervals, periods, budgetOf}
-use Rattle.meaning.specs.Curve.{Curve, limit, raw, EnvelopeOf, intervalStall}
+use Rattle.meaning.specs.Curve.{Curve, limit, raw, EnvelopeOf, intervalStall, Concave, Over}
 use Rattle.meaning.specs.Placement.{AnsweredAt}
 use Rattle.meaning.specs.Span.{IsSpan, NoSpan, firstTerm}
 use Rattle.meaning.specs.Run.{Period, Lawful, EndsWithin}
 use Rattle.meaning.specs.Refusals.{planRefusal, coreRefusal, spanRefusal}
 use Rattle.meaning.specs.PlanFile.{PlanFile, Reading, readFile, fileOf, Bytes, RightLists, Widths}
 use Rattle.meaning.specs.Promises.{RawFigures, RawPromise, CornersFigures, CornersPromise, PlacementFigures, PlacementPromise, SpanFigures, noSpanFigures, SpanAnswer, SpanPromise, ReadFigures, noFileFigures, fileFigures, fileWritten, fileHeld, fits, Places, ReadPromise, WriteFigures, WritePromise}
-use Rattle.meaning.specs.Listing.{planLine, endLine, WorkloadText, Listing}
+use Rattle.meaning.specs.Listing.{planLine, endLine, WorkloadText, Listing, linesFrom}
 use Rattle.meaning.specs.Again.{NoMoreWork, longer, until, zerosFor}
-use Rattle.laws.specs.Shape.{Concave}
 use Rattle.laws.specs.Raw.{raw-rises}
-use Rattle.laws.specs.Envelopes.{Over, envelope-over, envelope-least}
+use Rattle.laws.specs.Envelopes.{envelope-over, envelope-least}
 use Rattle.laws.specs.Answers.{raw-answer-exists, raw-answer-unique, corners-answer-exists, corners-answer-unique}
 use Rattle.laws.specs.Questions.{placement-answer-exists, placement-answer-unique, span-promise-unique}
 use Rattle.laws.specs.Answered.{span-promise-exists, read-answer-exists, write-answer-exists, answer-places-all, answer-rounds, answer-ends, answer-twelve}
@@ -26,10 +25,11 @@ use Rattle.laws.specs.Refusing.{raw-refused-zeros, corners-refused-zeros, place
 use Rattle.laws.specs.PlanFiles.{longest-file, sound-file-plan, read-answer-unique, write-answer-unique}
 use Rattle.laws.specs.ReadWrites.{read-writes}
 use Rattle.laws.specs.WrittenReads.{written-reads}
+use Rattle.laws.specs.Longest.{longest-is-accepted}
 use Rattle.laws.specs.RoundTrips.{read-and-written, written-and-read}
-use Rattle.laws.specs.Listings.{linesFrom, listing-exists, listing-unique, listing-of-lines}
+use Rattle.laws.specs.Listings.{listing-exists, listing-unique, listing-of-lines}
 use Rattle.laws.specs.Fronts.{first-8192}
-use Rattle.laws.specs.Outliving.{answer-given, asked-less, asked-later}
+use Rattle.laws.specs.Outliving.{answer-given, answer-room, asked-less, asked-later}
 use Rattle.laws.specs.Longer.{asked-longer}
 
 -- exactly one answer, figures and lent place together, meets a promise
@@ -171,7 +171,7 @@ pub envelope-nowhere-below : (perPeriod core : ℕ) (budgets : List ℕ) (c : Cu
     → Over (raw perPeriod budgets core) (budgetOf core budgets) c
 envelope-nowhere-below perPeriod core budgets c = envelope-over (raw perPeriod budgets core) (budgetOf core budgets) c
 
--- and it is the least such curve: no concave curve over 0..q that is nowhere below the raw stall gives any w periods with any x requests a smaller stall
+-- and it is the least such curve: among the concave curves over 0..q with whole corners whose stalls do not fall, none that is nowhere below the raw stall gives any w periods with any x requests a smaller stall
 pub envelope-is-least : (perPeriod core : ℕ) (budgets : List ℕ) (c other : Curve)
     → sumOf budgets ≡ perPeriod
     → EnvelopeOf perPeriod core budgets c
@@ -222,9 +222,13 @@ pub accepted-file-sound : (file : List ℕ) (f : PlanFile)
     → (planRefusal (f .plan) ≡ 0) × RightLists (f .workloads)
 accepted-file-sound = sound-file-plan
 
--- the longest accepted file has 5,642 bytes
+-- no accepted file has more than 5,642 bytes
 pub longest-accepted : (file : List ℕ) (f : PlanFile) → readFile file ≡ Reading.sound f → length file ≤ 5_642
 longest-accepted = longest-file
+
+-- and an accepted file has as many: one of 64 intervals with a budget for each of 8 cores, and 256 workloads
+pub longest-reached : (file : List ℕ) × (f : PlanFile) × (readFile file ≡ Reading.sound f) × (length file ≡ 5_642)
+longest-reached = longest-is-accepted
 
 -- reading the first 8,192 bytes of a file answers the same as reading all of it
 pub first-8192-same : (file : List ℕ) → readFile (take 8_192 file) ≡ readFile file
@@ -238,26 +242,30 @@ pub runs-end : (p : Plan) (w : Workload) (room : ℕ) (a : SpanFigures) (xs : Li
     → EndsWithin p w run (a .span)
 runs-end p w room a xs run h = answer-ends p w room a xs h run
 
--- asked again with less work, a span is given and it is no larger
-pub less-work-no-larger : (p : Plan) (w v : Workload) (room : ℕ) (a b : SpanFigures) (xs ys : List ℕ)
+-- asked again with less work, with any room of at least the intervals, a span is given and it is no larger
+pub less-work-no-larger : (p : Plan) (w v : Workload) (room room' : ℕ) (a b : SpanFigures) (xs ys : List ℕ)
     → SpanAnswer p w room a xs
     → a .refused ≡ 0
     → NoMoreWork v w
     → 1 ≤ v .computing
     → v .horizon ≤ periods p
-    → SpanAnswer p v room b ys
+    → intervals p ≤ room'
+    → SpanAnswer p v room' b ys
     → (b .refused ≡ 0) × (b .span ≤ a .span)
-less-work-no-larger = asked-less
+less-work-no-larger p w v room room' a b xs ys first none less some inPlan lent again =
+    asked-less p w v room' a b xs ys (answer-room p w room room' a xs first none lent) none less some inPlan again
 
--- a later horizon leaves it the same: span, stall, rounds and placement
-pub later-horizon-same : (p : Plan) (w : Workload) (h room : ℕ) (a b : SpanFigures) (xs ys : List ℕ)
+-- a later horizon, with any room of at least the intervals, leaves it the same: span, stall, rounds and placement
+pub later-horizon-same : (p : Plan) (w : Workload) (h room room' : ℕ) (a b : SpanFigures) (xs ys : List ℕ)
     → SpanAnswer p w room a xs
     → a .refused ≡ 0
     → w .horizon ≤ h
     → h ≤ periods p
-    → SpanAnswer p (until w h) room b ys
+    → intervals p ≤ room'
+    → SpanAnswer p (until w h) room' b ys
     → (b ≡ a) × (ys ≡ xs)
-later-horizon-same = asked-later
+later-horizon-same p w h room room' a b xs ys first none later inPlan lent again =
+    asked-later p w h room' a b xs ys (answer-room p w room room' a xs first none lent) none later inPlan again
 
 -- intervals added behind leave it the same, the placement followed by zeros
 pub intervals-behind-same : (p : Plan) (ls bs : List ℕ) (w : Workload) (room room' : ℕ) (a b : SpanFigures) (xs ys : List ℕ)

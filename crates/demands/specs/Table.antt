@@ -3,9 +3,9 @@ use mathlib.Core.Path.{_≡_, refl}
 use mathlib.Core.List.{List, [], _∷_}
 use Prim.Native.Nat.{ℕ}
 use lib.ListN.{length}
-use Rattle.meaning.specs.Fraction.{roundUp}
+use Rattle.meaning.specs.Fraction.{roundUp, whole, _+ᶠ_}
 use Rattle.meaning.specs.Plan.{Plan, Workload, intervals, rowsOf, All}
-use Rattle.meaning.specs.Curve.{Curve, raw, others, sumOfSmaller, rates, EnvelopeOf}
+use Rattle.meaning.specs.Curve.{Curve, raw, others, sumOfSmaller, rates, stalls, EnvelopeOf, intervalStall, stallFrom}
 use Rattle.meaning.specs.Placement.{shares, AnsweredAt}
 use Rattle.meaning.specs.Span.{firstTerm, NextTerm}
 use Rattle.meaning.specs.Refusals.{intervalsRefusal, planRefusal, withoutBudget, coreRefusal, placementRefusal, spanRefusal}
@@ -103,6 +103,8 @@ table =
     ∷ placementRow plan 4 7 1 9 (7 ∷ [])
     -- three intervals with one curve at W = 3: 3 requests in each would stall 7 2/3 each, 24 if rounded up before the total
     ∷ placementRow same 3 9 3 23 (5 ∷ 2 ∷ 2 ∷ [])
+    -- P4's work at W = 9: 82 1/3, rounded up
+    ∷ placementRow plan 3 35 9 83 (35 ∷ [])
     ∷ []
 
 -- each number is the next term of the one before it, the first of them that of t
@@ -196,4 +198,14 @@ table-holds =
     also claim-placement three 3 25 6 3 (curve3 ∷ second3 ∷ third3 ∷ []) refl refl
     also claim-placement plan 4 7 1 1 (curve4 ∷ []) refl refl
     also claim-placement same 3 9 3 3 (curve3 ∷ curve3 ∷ curve3 ∷ []) refl refl
+    also claim-placement plan 3 35 9 1 (curve3 ∷ []) refl refl
     also tt
+
+-- 004: core 3's envelope, with corners 0, 2, 5 and stalls 0, 6, 11 there, gives 9 periods with 35 requests a stall of 82 1/3
+pub stall-of-nine : (c : Curve)
+    × EnvelopeOf 16 3 budgets c
+    × (rates c ≡ 0 ∷ 2 ∷ 5 ∷ [])
+    × (stalls c ≡ 0 ∷ 6 ∷ 11 ∷ [])
+    × (intervalStall c 9 35 ≡ whole 82 +ᶠ record { num = 1; den = 3 })
+unfolding raw others sumOfSmaller covered cornersRight envelopeRight stallFrom
+stall-of-nine = (curve3, envelope-checked (raw 16 budgets 3) 5 curve3 refl, refl, refl, refl)

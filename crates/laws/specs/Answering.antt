@@ -7,9 +7,8 @@ use native.Mathlib.Nat.{zero-add, mul-zero}
 use native.Mathlib.Omega.{arith}
 use Rattle.meaning.specs.Fraction.{Fraction, Proper, _=ᶠ_}
 use Rattle.meaning.specs.Plan.{sumOf}
-use Rattle.meaning.specs.Curve.{Curve}
+use Rattle.meaning.specs.Curve.{Curve, Concave}
 use Rattle.meaning.specs.Placement.{Part, total, Answered}
-use Rattle.laws.specs.Shape.{Concave}
 use Rattle.laws.specs.Price.{here}
 use Rattle.laws.specs.Certificate.{Certificate, Certified, excesses, total-touch, total-proper, certified-answered}
 use Rattle.laws.specs.Indexed.{listFrom, sumFrom, list-length, sum-list}

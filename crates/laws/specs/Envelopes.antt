@@ -7,17 +7,13 @@ use native.Mathlib.Nat.{le-refl, le-trans, le-of-lt, le-of-eq, le-antisymm, mul-
 use native.Mathlib.Omega.{arith}
 use borrow.Author.Tests.{le-leb, lt-leb}
 use Rattle.meaning.specs.Fraction.{Fraction, Proper, whole, _≤ᶠ_}
-use Rattle.meaning.specs.Curve.{Corner, Curve, lastOf, limit, OnRaw, Rising, Covering, Envelope, intervalStall, stallFrom}
+use Rattle.meaning.specs.Curve.{Corner, Curve, lastOf, limit, OnRaw, Rising, Covering, Envelope, intervalStall, stallFrom, Over, Concave}
 use Rattle.laws.specs.Order.{le-or-lt}
-use Rattle.laws.specs.Shape.{Rises, Concave, envelope-concave, rate-le-last}
+use Rattle.laws.specs.Shape.{Rises, envelope-concave, rate-le-last}
 use Rattle.laws.specs.Fractions.{TimesLe, le-of-times}
 use Rattle.laws.specs.Price.{Under}
 use Rattle.laws.specs.Passing.{stall-proper}
 use Rattle.laws.specs.Tangent.{tangent, under-bound}
-
--- a curve is nowhere below the raw stall at whole rates
-abbrev pub Over : (ℕ → ℕ) → ℕ → Curve → Type 0
-Over stallAt q c = (r : ℕ) → r ≤ q → whole (stallAt r) ≤ᶠ intervalStall c 1 r
 
 over-from : (stallAt : ℕ → ℕ) (r : ℕ) (a : Corner) (cs : List Corner)
     → OnRaw stallAt a cs

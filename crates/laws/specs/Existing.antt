@@ -8,10 +8,10 @@ use native.Mathlib.Omega.{arith}
 use lib.ListN.{length, getD}
 use Rattle.meaning.specs.Fraction.{Fraction, _=ᶠ_, roundUp}
 use Rattle.meaning.specs.Plan.{Plan, sumOf, intervals, rows, budgetOf}
-use Rattle.meaning.specs.Curve.{Curve, raw, others, EnvelopeOf}
+use Rattle.meaning.specs.Curve.{Curve, raw, others, EnvelopeOf, Concave}
 use Rattle.meaning.specs.Placement.{Part, shares, PartsOf, total, GreatestStall, AnsweredAt}
 use Rattle.laws.specs.Order.{le-or-lt}
-use Rattle.laws.specs.Shape.{Concave, first-on}
+use Rattle.laws.specs.Shape.{first-on}
 use Rattle.laws.specs.Raw.{raw-rises, raw-below, smaller-none}
 use Rattle.laws.specs.Stack.{envelope-exists}
 use Rattle.laws.specs.Fractions.{round-up-same}

@@ -6,10 +6,9 @@ use Prim.Native.Nat.{ℕ, _+_, _-_, _*_, _≤_, _<_, zero-le}
 use native.Mathlib.Nat.{le-refl, le-of-eq, le-add-right}
 use native.Mathlib.Omega.{arith}
 use borrow.Author.Tests.{eq-eqb, ne-eqb, le-leb, lt-leb}
-use Rattle.meaning.specs.Curve.{Corner, Curve, Rising, Falling}
+use Rattle.meaning.specs.Curve.{Corner, Curve, Rising, Falling, Concave}
 use Rattle.meaning.specs.Placement.{Part}
 use Rattle.laws.specs.Order.{le-or-lt, eq-or-ne}
-use Rattle.laws.specs.Shape.{Concave}
 use Rattle.laws.specs.Price.{Along, Tight}
 use Rattle.laws.specs.Passing.{passed-rising}
 use Rattle.laws.specs.Certificate.{Certificate}

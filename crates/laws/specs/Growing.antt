@@ -6,9 +6,8 @@ use native.Mathlib.Nat.{le-refl, le-trans, mul-le-mul-right}
 use native.Mathlib.Omega.{arith}
 use Rattle.meaning.specs.Fraction.{Fraction, _≤ᶠ_}
 use Rattle.meaning.specs.Plan.{Plan, rows, budgetOf, All}
-use Rattle.meaning.specs.Curve.{Curve, limit, raw}
+use Rattle.meaning.specs.Curve.{Curve, limit, raw, Concave}
 use Rattle.meaning.specs.Placement.{Part, shares, PartsOf, Fitting, total, Greatest, GreatestStall}
-use Rattle.laws.specs.Shape.{Concave}
 use Rattle.laws.specs.Raw.{raw-rises}
 use Rattle.laws.specs.Unique.{envelope-unique}
 use Rattle.laws.specs.Fractions.{le-trans-fraction, sum-le}

@@ -42,6 +42,7 @@ pub mod Rows
 pub mod Fronts
 pub mod ReadWrites
 pub mod WrittenReads
+pub mod Longest
 pub mod Listings
 pub mod Refusing
 pub mod RoundTrips

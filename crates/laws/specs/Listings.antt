@@ -1,6 +1,6 @@
 -- The program's listing: every file has one, and only one, and the lines of its workloads make it.
 use mathlib.Core.Path.{_≡_, refl, sym, ap, ap₂, _∙_, subst}
-use mathlib.Core.List.{List, [], _++_, append-assoc}
+use mathlib.Core.List.{List, _++_, append-assoc}
 use Prim.Native.Nat.{ℕ, zero, suc, _+_, _≤_, _<_}
 use native.Mathlib.Nat.{add-zero, le-refl, le-of-suc-le}
 use native.Mathlib.Omega.{arith}
@@ -8,7 +8,7 @@ use lib.ListN.{length}
 use Rattle.meaning.specs.Plan.{intervals}
 use Rattle.meaning.specs.PlanFile.{Reading, PlanFile, readFile}
 use Rattle.meaning.specs.Promises.{SpanFigures}
-use Rattle.meaning.specs.Listing.{planLine, endLine, fileRefusedLine, answerLine, workloadAt, WorkloadText, Lines, ListingOf, Listing}
+use Rattle.meaning.specs.Listing.{planLine, endLine, fileRefusedLine, answerLine, workloadAt, WorkloadText, Lines, ListingOf, Listing, linesFrom}
 use Rattle.laws.specs.Questions.{span-answer-exists, span-answer-unique}
 
 -- every workload has a line
@@ -23,11 +23,6 @@ workload-text-unique : (f : PlanFile) (k : ℕ) (s t : List ℕ) → WorkloadTex
 workload-text-unique f k s t (a, xs, given, line) (b, ys, given′, line′) =
     let same = span-answer-unique (f .plan) (workloadAt (f .workloads) k) (intervals (f .plan)) a b xs ys given given′ in
     line ∙ ap₂ (λ (c : SpanFigures) (zs : List ℕ). answerLine (suc k) c zs (c .refused)) (same .0) (same .1) ∙ sym line′
-
--- line k, line (k + 1), and so on, n of them, one behind the other
-unfoldable pub linesFrom : ℕ → ℕ → (ℕ → List ℕ) → List ℕ
-linesFrom k zero line = []
-linesFrom k (suc n) line = line k ++ linesFrom (suc k) n line
 
 -- the lines of n workloads from the k-th on, with the last line behind them
 lines-from : (f : PlanFile) (k n : ℕ) (line : ℕ → List ℕ)

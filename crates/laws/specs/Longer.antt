@@ -9,13 +9,12 @@ use lib.ListN.{length, take, drop, length-drop}
 use lib.Seq.{take-append-le, drop-append-le}
 use Rattle.meaning.specs.Fraction.{Fraction, Proper, whole, _≤ᶠ_, _=ᶠ_, _+ᶠ_}
 use Rattle.meaning.specs.Plan.{Plan, Workload, sumOf, intervals, periods, rowsOf, rows, budgetOf, All}
-use Rattle.meaning.specs.Curve.{limit, raw, stallFrom}
+use Rattle.meaning.specs.Curve.{limit, raw, stallFrom, Concave}
 use Rattle.meaning.specs.Placement.{Part, shares, PartsOf, Parts, Fitting, Placement, total, Greatest, NotAhead, Answered, GreatestStall, AnsweredAt}
 use Rattle.meaning.specs.Span.{work, Holds, NextTerm}
 use Rattle.meaning.specs.Refusals.{planRefusal, coreRefusal}
 use Rattle.meaning.specs.Promises.{SpanFigures, SpanGiven, SpanAnswer}
 use Rattle.meaning.specs.Again.{longer, zerosFor}
-use Rattle.laws.specs.Shape.{Concave}
 use Rattle.laws.specs.Masks.{sum-append}
 use Rattle.laws.specs.Raw.{raw-rises}
 use Rattle.laws.specs.Stack.{envelope-exists}

@@ -9,9 +9,8 @@ use native.Mathlib.Omega.{arith}
 use lib.Dec.{eqb, leb, ltb}
 use lib.Arith.{lt-of-le-ne}
 use borrow.Author.Tests.{eq-eqb, ne-eqb, le-leb, lt-leb, lt-ltb, le-ltb}
-use Rattle.meaning.specs.Curve.{Corner, Curve, Rising}
+use Rattle.meaning.specs.Curve.{Corner, Curve, Rising, Climbing, Concave}
 use Rattle.laws.specs.Order.{le-or-lt, eq-or-ne}
-use Rattle.laws.specs.Shape.{Climbing, Concave}
 use Rattle.laws.specs.Stage.{Ahead, Shallow, Shallower}
 use Rattle.laws.specs.Filling.{Pick, steppedFrom, advance, advance-all, Nothing, next-not, next-below, advance-nothing, FirstIs, Picked, Next, Order, picked-run}
 

@@ -191,6 +191,28 @@ module _ (p : Plan) (w : Workload) (room : ℕ) (a : SpanFigures) (xs : List ℕ
   pub answer-given : SpanAnswer p w room a xs → a .refused ≡ 0 → SoundSpan p w room × SpanGiven p w a xs
   answer-given answer none = given-by (spanRefusal p w room) refl answer none
 
+-- an answer with a span stays an answer for any other room of at least the intervals
+pub answer-room : (p : Plan) (w : Workload) (room room' : ℕ) (a : SpanFigures) (xs : List ℕ)
+    → SpanAnswer p w room a xs
+    → a .refused ≡ 0
+    → intervals p ≤ room'
+    → SpanAnswer p w room' a xs
+answer-room p w room room' a xs answer none lent =
+    let asked = answer-given p w room a xs answer none in
+    let s = asked .0 in
+    given-answer p w room' a xs
+    (record {
+      plan = s .plan;
+      budgets = s .budgets;
+      someComputing = s .someComputing;
+      fewComputing = s .fewComputing;
+      fewRequests = s .fewRequests;
+      positive = s .positive;
+      inPlan = s .inPlan;
+      enoughRoom = lent;
+    })
+    (asked .1)
+
 -- with no more work, some computing, and a horizon within the plan, the question is as sound
 sound-less : (p : Plan) (w v : Workload) (room : ℕ)
     → SoundSpan p w room

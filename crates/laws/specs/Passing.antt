@@ -7,9 +7,8 @@ use native.Mathlib.Nat.{le-refl, le-trans, le-of-lt, le-antisymm, add-sub-of-le,
 use native.Mathlib.Omega.{arith}
 use borrow.Author.Tests.{le-leb, lt-leb}
 use Rattle.meaning.specs.Fraction.{Proper, whole, _=ᶠ_}
-use Rattle.meaning.specs.Curve.{Corner, lastOf, onSegment, Rising, stallFrom}
+use Rattle.meaning.specs.Curve.{Corner, lastOf, onSegment, Rising, stallFrom, Climbing}
 use Rattle.laws.specs.Order.{le-or-lt}
-use Rattle.laws.specs.Shape.{Climbing}
 use Rattle.laws.specs.Fractions.{same-trans}
 use Rattle.laws.specs.Price.{Passed, here, step}
 

@@ -7,9 +7,8 @@ use native.Mathlib.Nat.{le-dest, le-intro, le-of-lt, add-sub-of-le, mul-le-mul-l
 use native.Mathlib.Omega.{arith}
 use borrow.Author.Tests.{le-leb, lt-leb}
 use Rattle.meaning.specs.Fraction.{Fraction}
-use Rattle.meaning.specs.Curve.{Corner, lastOf, onSegment, OnRaw, Rising, Covering, stallFrom}
+use Rattle.meaning.specs.Curve.{Corner, lastOf, onSegment, OnRaw, Rising, Covering, stallFrom, Climbing}
 use Rattle.laws.specs.Order.{le-or-lt}
-use Rattle.laws.specs.Shape.{Climbing}
 
 -- the corners t and rest are reached from a and cs by passing only segments of which R holds
 pub data Passed (R : Corner → Corner → Type 0) : Corner → List Corner → Corner → List Corner → Type 0 where

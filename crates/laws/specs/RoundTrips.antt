@@ -19,14 +19,14 @@ use Rattle.laws.specs.ReadWrites.{read-writes}
 use Rattle.laws.specs.WrittenReads.{written-reads}
 
 -- a file that was read without a refusal: what it holds, with the figures and the places after it
-record Accepted (file : List ℕ) (places : Places) (a : ReadFigures) (after : Places) : Type 0 where
-  contents : PlanFile
-  reads : readFile file ≡ Reading.sound contents
-  figures : a ≡ fileFigures contents
-  filled : after ≡ fileWritten contents places
+pub record Accepted (file : List ℕ) (places : Places) (a : ReadFigures) (after : Places) : Type 0 where
+  pub contents : PlanFile
+  pub reads : readFile file ≡ Reading.sound contents
+  pub figures : a ≡ fileFigures contents
+  pub filled : after ≡ fileWritten contents places
 
 -- a reading that is not refused is of a sound file that fits the places
-accepted : (file : List ℕ) (places : Places) (a : ReadFigures) (after : Places)
+pub accepted : (file : List ℕ) (places : Places) (a : ReadFigures) (after : Places)
     → ReadPromise file places a after
     → a .refused ≡ 0
     → Accepted file places a after
@@ -51,7 +51,7 @@ accepted file places a after h none = by-reading (readFile file) refl (refused-w
     by-reading (Reading.sound f) e within given = by-room f (fits f places) e given
 
 -- the figures and the fronts of the places give back what was read into them
-held-back : (f : PlanFile) (places : Places)
+pub held-back : (f : PlanFile) (places : Places)
     → length (f .plan .budgets) ≡ length (f .plan .lengths) * f .plan .cores
     → RightLists (f .workloads)
     → fileHeld (fileFigures f) (fileWritten f places) ≡ f

@@ -1,26 +1,14 @@
--- What the laws ask of a raw stall and of a curve. Nothing here speaks of cores, and no curve has to start at height 0 or to have a segment.
+-- What the laws ask of a raw stall, and that its envelope is concave. Nothing here speaks of cores.
 use mathlib.Core.Path.{_≡_, sym, subst}
 use mathlib.Core.List.{List, [], _∷_}
 use Prim.Native.Nat.{ℕ, _≤_}
 use native.Mathlib.Nat.{le-trans, le-of-lt, le-refl}
 use native.Mathlib.Omega.{arith}
-use Rattle.meaning.specs.Curve.{Corner, Curve, lastOf, OnRaw, Rising, Falling, Envelope}
+use Rattle.meaning.specs.Curve.{Corner, Curve, lastOf, OnRaw, Rising, Falling, Envelope, Concave, Climbing}
 
 -- a raw stall that does not fall over 0..q
 abbrev pub Rises : (ℕ → ℕ) → ℕ → Type 0
 Rises stallAt q = (r s : ℕ) → r ≤ s → s ≤ q → stallAt r ≤ stallAt s
-
--- the stalls of the corners do not fall
-abbrev pub Climbing : Corner → List Corner → Type 0
-Climbing a [] = Unit {0}
-Climbing a (b ∷ cs) = (a .stall ≤ b .stall) × Climbing b cs
-
--- a curve from rate 0, whose rates rise, whose stalls do not fall, and whose slopes strictly fall
-pub record Concave (c : Curve) : Type 0 where
-  pub starts : c .first .rate ≡ 0
-  pub rising : Rising (c .first) (c .rest)
-  pub climbing : Climbing (c .first) (c .rest)
-  pub falling : Falling (c .first) (c .rest)
 
 -- the first rate is at most the last
 pub rate-le-last : (a : Corner) (cs : List Corner) → Rising a cs → a .rate ≤ lastOf a cs .rate

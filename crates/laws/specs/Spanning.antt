@@ -8,11 +8,10 @@ use native.Mathlib.Nat.{le-refl, lt-irrefl, lt-of-lt-of-le, eq-or-lt-of-le, mul-
 use native.Mathlib.Omega.{arith}
 use Rattle.meaning.specs.Fraction.{Fraction, Proper, whole, _≤ᶠ_, _=ᶠ_, _+ᶠ_, roundUp}
 use Rattle.meaning.specs.Plan.{Plan, Workload, sumOf, periods, rows, budgetOf, All}
-use Rattle.meaning.specs.Curve.{Corner, Curve, lastOf, limit, OnRaw, Rising, raw, EnvelopeOf, intervalStall, stallFrom}
+use Rattle.meaning.specs.Curve.{Corner, Curve, lastOf, limit, OnRaw, Rising, raw, EnvelopeOf, intervalStall, stallFrom, Climbing, Concave}
 use Rattle.meaning.specs.Placement.{Part, shares, PartsOf, Fitting, total, Greatest, Answered, AnsweredAt}
 use Rattle.meaning.specs.Span.{work, Holds, IsSpan, NoSpan, firstTerm, NextTerm, SettlesFrom, Rounds}
 use Rattle.laws.specs.Order.{le-or-lt, eq-or-ne}
-use Rattle.laws.specs.Shape.{Climbing, Concave}
 use Rattle.laws.specs.Raw.{raw-full, raw-le}
 use Rattle.laws.specs.Fractions.{le-trans-fraction, sum-le}
 use Rattle.laws.specs.Price.{Passed, here, step}

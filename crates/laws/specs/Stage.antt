@@ -6,10 +6,10 @@ use Prim.Native.Nat.{ℕ, _+_, _-_, _*_, _≤_, _<_}
 use native.Mathlib.Nat.{le-refl, le-trans, le-of-lt, le-of-eq, lt-irrefl, add-sub-of-le, mul-le-mul-left, le-add-right, mul-zero}
 use native.Mathlib.Omega.{arith}
 use Rattle.meaning.specs.Fraction.{whole, _=ᶠ_}
-use Rattle.meaning.specs.Curve.{Corner, Curve, lastOf, limit, Rising, stallFrom}
+use Rattle.meaning.specs.Curve.{Corner, Curve, lastOf, limit, Rising, stallFrom, Climbing, Concave}
 use Rattle.meaning.specs.Placement.{Part}
 use Rattle.laws.specs.Order.{le-or-lt}
-use Rattle.laws.specs.Shape.{Climbing, Concave, rate-le-last}
+use Rattle.laws.specs.Shape.{rate-le-last}
 use Rattle.laws.specs.Fractions.{Times, times-same, same-trans}
 use Rattle.laws.specs.Price.{Passed, here, step, Along, Slack, Loose, Tight, Under, LooseAfter, priced, priced-same, priced-less-after, priced-less-before}
 use Rattle.laws.specs.Passing.{stall-proper, stall-at-first, passed-same, passed-rising, passed-climbing, passed-last}

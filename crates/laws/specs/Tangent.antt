@@ -6,9 +6,8 @@ use Prim.Native.Nat.{ℕ, _+_, _-_, _*_, _≤_}
 use native.Mathlib.Nat.{le-refl, le-trans, le-of-lt, lt-irrefl, add-sub-of-le, ne-of-lt, mul-le-mul-left, mul-le-mul-right}
 use native.Mathlib.Omega.{arith}
 use Rattle.meaning.specs.Fraction.{_≤ᶠ_, _+ᶠ_}
-use Rattle.meaning.specs.Curve.{Corner, Curve, lastOf, limit, Rising, intervalStall, stallFrom}
+use Rattle.meaning.specs.Curve.{Corner, Curve, lastOf, limit, Rising, intervalStall, stallFrom, Concave}
 use Rattle.laws.specs.Order.{le-or-lt}
-use Rattle.laws.specs.Shape.{Concave}
 use Rattle.laws.specs.Fractions.{Times, TimesLe, times-le-sum, le-of-times}
 use Rattle.laws.specs.Price.{Passed, here, Under, priced}
 use Rattle.laws.specs.Passing.{passed-rising, passed-last}

@@ -24,8 +24,9 @@ use Rattle.meaning.specs.Curve.{
   Falling,
   Covering,
   Envelope,
+  Climbing,
 }
-use Rattle.laws.specs.Shape.{Rises, Climbing, rate-le-last, falling-rest, first-on, envelope-concave}
+use Rattle.laws.specs.Shape.{Rises, rate-le-last, falling-rest, first-on, envelope-concave}
 
 -- the corners of an envelope from a on
 record Onward (stallAt : ℕ → ℕ) (q : ℕ) (a : Corner) (cs : List Corner) : Type 0 where

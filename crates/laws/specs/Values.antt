@@ -6,9 +6,9 @@ use Prim.Native.Nat.{ℕ}
 use native.Mathlib.Nat.{le-refl, le-antisymm, lt-irrefl, lt-trans, ne-of-lt}
 use Rattle.meaning.specs.Fraction.{Fraction, Proper, _=ᶠ_, roundUp}
 use Rattle.meaning.specs.Plan.{Plan, sumOf, rows, budgetOf, All}
-use Rattle.meaning.specs.Curve.{Curve, raw, EnvelopeOf}
+use Rattle.meaning.specs.Curve.{Curve, raw, EnvelopeOf, Concave}
 use Rattle.meaning.specs.Placement.{Part, shares, PartsOf, Fitting, total, Greatest, NotAhead, Answered, GreatestStall, AnsweredAt}
-use Rattle.laws.specs.Shape.{Concave, envelope-concave}
+use Rattle.laws.specs.Shape.{envelope-concave}
 use Rattle.laws.specs.Raw.{raw-rises}
 use Rattle.laws.specs.Unique.{envelope-unique}
 use Rattle.laws.specs.Fractions.{same-of-le, sum-proper}

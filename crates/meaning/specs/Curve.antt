@@ -114,3 +114,19 @@ stallFrom a (b ∷ cs) w x = cond (leb x (w * b .rate)) (onSegment a b w x) (sta
 -- the interval's stall for w periods and x requests: w times the envelope at x/w
 abbrev pub intervalStall : Curve → ℕ → ℕ → Fraction
 intervalStall c w x = stallFrom (c .first) (c .rest) w x
+
+-- a curve is nowhere below the raw stall at whole rates
+abbrev pub Over : (ℕ → ℕ) → ℕ → Curve → Type 0
+Over stallAt q c = (r : ℕ) → r ≤ q → whole (stallAt r) ≤ᶠ intervalStall c 1 r
+
+-- the stalls of the corners do not fall
+abbrev pub Climbing : Corner → List Corner → Type 0
+Climbing a [] = Unit {0}
+Climbing a (b ∷ cs) = (a .stall ≤ b .stall) × Climbing b cs
+
+-- a curve from rate 0, whose rates rise, whose stalls do not fall, and whose slopes strictly fall; it need not start at stall 0 or have a segment
+pub record Concave (c : Curve) : Type 0 where
+  pub starts : c .first .rate ≡ 0
+  pub rising : Rising (c .first) (c .rest)
+  pub climbing : Climbing (c .first) (c .rest)
+  pub falling : Falling (c .first) (c .rest)

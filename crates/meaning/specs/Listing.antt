@@ -123,6 +123,11 @@ Lines f k zero text = text ≡ endLine k
 Lines f k (suc n) text =
     (line : List ℕ) × (later : List ℕ) × WorkloadText f k line × Lines f (suc k) n later × (text ≡ line ++ later)
 
+-- line k, line (k + 1), and so on, n of them, one behind the other
+unfoldable pub linesFrom : ℕ → ℕ → (ℕ → List ℕ) → List ℕ
+linesFrom k zero line = []
+linesFrom k (suc n) line = line k ++ linesFrom (suc k) n line
+
 -- the listing of what a file was found to hold
 abbrev pub ListingOf : Reading → List ℕ → Type 0
 ListingOf (Reading.refused n offset) text = text ≡ fileRefusedLine n offset

@@ -1,12 +1,15 @@
 // The program `spans`: one plan file from standard input, and its listing on standard output, each line in one call.
+ghost use mathlib.Core.Path.{_≡_};
 ghost use Prim.Native.Nat.{_≤_, _<_};
 ghost use lib.ListN.{length};
+ghost use Rattle.io.specs.Counts.{Counts};
 ghost use Rattle.meaning.specs.Plan.{mostIntervals};
+ghost use Rattle.meaning.specs.PlanFile.{readFile};
 ghost use Rattle.listing.specs.Promise.{room};
 ghost use Rattle.planfile.specs.Reading.{placesOf, workloadsOf};
 ghost use Rattle.planfile.specs.Answering.{Room};
 ghost use Rattle.planfile.specs.Writing.{fileGiven};
-ghost use Rattle.spans.specs.Found.{Counted};
+ghost use Rattle.spans.specs.Found.{Sized, Counted, FirstLine};
 ghost use Rattle.spans.specs.Lines.{Within, Listed, WorkloadLine};
 use libc::STDIN_FILENO;
 use libc::STDOUT_FILENO;
@@ -15,18 +18,84 @@ use planfile::Contents;
 use planfile::ReadAnswer;
 use span::SpanAnswer;
 use units::Periods;
-use units::Refusal;
 use units::Requests;
 use units::Slots;
 
-// A line as it was built, written in one call.
-fn print(line: &[u8], built: Line)
+// The most bytes of a file that are read: no longer file is accepted, and every longer one answers the same.
+const MOST_BYTES: usize = 8_192;
+
+// How a listing begins: the plan's line, with what the file holds, or the single line of a refused file.
+enum Opening {
+    Plan(Contents, Line),
+    Refused(Line),
+}
+
+// A line as it was built, written in one call; whether it was written.
+fn print(line: &[u8], built: Line) -> bool
     requires { ⌜ Within built (now line) ⌝ }
 {
     let Line::Length(length) = built else {
-        return;
+        return false;
     };
-    io::write_all(STDOUT_FILENO, &line[..length]);
+    io::write_all(STDOUT_FILENO, &line[..length])
+}
+
+// Standard input to its end, but no more than there is room for; how many bytes there were.
+fn read_input(file: &mut [u8]) -> usize
+    requires { ⌜ length (now file) ≡ 8_192 ⌝ }
+    ensures { λ r. ⌜ Counts r (now (file .exit)) ⌝ }
+{
+    io::read_full(STDIN_FILENO, file)
+}
+
+// The first line of a file's listing; the file is read into the places.
+fn first_line(
+    file: &[u8],
+    lengths: &mut [u16],
+    budgets: &mut [u16],
+    analysed: &mut [u8],
+    computing: &mut [u32],
+    requests: &mut [u32],
+    horizons: &mut [u16],
+    line: &mut [u8],
+) -> Opening
+    requires { ⌜ (length (now file) ≤ 8_192) × (room ≤ length (now line)) ⌝ }
+    requires { ⌜ Sized
+        (placesOf (now lengths) (now budgets) (now analysed) (now computing) (now requests) (now horizons)) ⌝ }
+    ensures { λ r. ⌜ FirstLine
+        (readFile (now (file .entry)))
+        (placesOf
+        (now (lengths .exit))
+        (now (budgets .exit))
+        (now (analysed .exit))
+        (now (computing .exit))
+        (now (requests .exit))
+        (now (horizons .exit)))
+        (now (line .entry))
+        r
+        (now (line .exit)) ⌝ }
+{
+    match planfile::read(
+        file,
+        lengths,
+        budgets,
+        analysed,
+        computing,
+        requests,
+        horizons,
+    ) {
+        ReadAnswer::Refused(refusal, offset) => {
+            Opening::Refused(listing::file_refused_line(refusal, offset as u32, line))
+        }
+        ReadAnswer::Sound(found) => {
+            let intervals = found.intervals;
+            let front = &lengths[..intervals];
+            Opening::Plan(
+                found,
+                listing::plan_line(found.cores, found.each, front, line),
+            )
+        }
+    }
 }
 
 // The line of the workload at an index: what the question "span" answers for it.
@@ -82,7 +151,7 @@ fn workload_line(
     }
 }
 
-// The lines of all workloads.
+// The lines of all workloads; whether they were written.
 fn print_workloads(
     cores: u8,
     each: Slots,
@@ -94,7 +163,7 @@ fn print_workloads(
     horizons: &[u16],
     place: &mut [u32],
     line: &mut [u8],
-)
+) -> bool
     requires { ⌜ room ≤ length (now line) ⌝ }
     requires { ⌜ Listed (now lengths) (workloadsOf (now analysed) (now computing) (now requests) (now horizons)) (now place) ⌝ }
 {
@@ -113,37 +182,24 @@ fn print_workloads(
             place,
             line,
         );
-        print(line, built);
+        if !print(line, built) {
+            return false;
+        }
         index += 1;
     }
+    true
 }
 
-// The first line.
-fn print_plan(cores: u8, each: Slots, lengths: &[u16], line: &mut [u8])
-    requires { ⌜ (length (now lengths) ≤ mostIntervals) × (room ≤ length (now line)) ⌝ }
-{
-    let built = listing::plan_line(cores, each, lengths, line);
-    print(line, built);
-}
-
-// The last line.
-fn print_end(count: u16, line: &mut [u8])
+// The last line; whether it was written.
+fn print_end(count: u16, line: &mut [u8]) -> bool
     requires { ⌜ room ≤ length (now line) ⌝ }
 {
     let built = listing::end_line(count, line);
-    print(line, built);
+    print(line, built)
 }
 
-// The single line of a refused file.
-fn print_file_refused(refusal: Refusal, offset: u32, line: &mut [u8])
-    requires { ⌜ room ≤ length (now line) ⌝ }
-{
-    let built = listing::file_refused_line(refusal, offset, line);
-    print(line, built);
-}
-
-// The listing of a file that was read into these places.
-fn print_found(
+// The lines behind the first, of a file that was read into these places; whether they were written.
+fn print_rest(
     found: Contents,
     lengths: &[u16],
     budgets: &[u16],
@@ -153,7 +209,7 @@ fn print_found(
     horizons: &[u16],
     place: &mut [u32],
     line: &mut [u8],
-)
+) -> bool
     requires { ⌜ Counted found × (mostIntervals ≤ length (now place)) × (room ≤ length (now line)) ⌝ }
     requires { ⌜ Room
         found
@@ -162,8 +218,7 @@ fn print_found(
     let intervals = found.intervals;
     let count = found.workloads;
     let numbers = intervals * found.cores as usize;
-    print_plan(found.cores, found.each, &lengths[..intervals], line);
-    print_workloads(
+    if !print_workloads(
         found.cores,
         found.each,
         &lengths[..intervals],
@@ -174,11 +229,13 @@ fn print_found(
         &horizons[..count],
         &mut place[..intervals],
         line,
-    );
-    print_end(count as u16, line);
+    ) {
+        return false;
+    }
+    print_end(count as u16, line)
 }
 
-// The listing of a file, which is read into the places.
+// The listing of a file, which is read into the places; whether it was written.
 fn print_listing(
     file: &[u8],
     lengths: &mut [u16],
@@ -189,10 +246,12 @@ fn print_listing(
     horizons: &mut [u16],
     place: &mut [u32],
     line: &mut [u8],
-)
+) -> bool
     requires { ⌜ (length (now file) ≤ 8_192) × (mostIntervals ≤ length (now place)) × (room ≤ length (now line)) ⌝ }
+    requires { ⌜ Sized
+        (placesOf (now lengths) (now budgets) (now analysed) (now computing) (now requests) (now horizons)) ⌝ }
 {
-    match planfile::read(
+    match first_line(
         file,
         lengths,
         budgets,
@@ -200,25 +259,31 @@ fn print_listing(
         computing,
         requests,
         horizons,
+        line,
     ) {
-        ReadAnswer::Refused(refusal, offset) => print_file_refused(refusal, offset as u32, line),
-        ReadAnswer::Sound(found) => print_found(
-            found,
-            lengths,
-            budgets,
-            analysed,
-            computing,
-            requests,
-            horizons,
-            place,
-            line,
-        ),
+        Opening::Refused(built) => print(line, built),
+        Opening::Plan(found, built) => {
+            if !print(line, built) {
+                return false;
+            }
+            print_rest(
+                found,
+                lengths,
+                budgets,
+                analysed,
+                computing,
+                requests,
+                horizons,
+                place,
+                line,
+            )
+        }
     }
 }
 
-// At most 8,192 bytes are read: no longer file is accepted, and every longer one answers the same.
+// One file's listing. A line that cannot be written ends it.
 fn main() {
-    let mut file = [0u8; 8192];
+    let mut file = [0u8; MOST_BYTES];
     let mut lengths = [0u16; 64];
     let mut budgets = [0u16; 512];
     let mut analysed = [0u8; 256];
@@ -227,7 +292,7 @@ fn main() {
     let mut horizons = [0u16; 256];
     let mut place = [0u32; 64];
     let mut line = [0u8; listing::ROOM];
-    let length = io::read_full(STDIN_FILENO, &mut file);
+    let length = read_input(&mut file);
     print_listing(
         &file[..length],
         &mut lengths,

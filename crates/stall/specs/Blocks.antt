@@ -2,8 +2,7 @@
 use mathlib.Core.List.{List, []}
 use Prim.Native.Nat.{ℕ, _-_, _≤_, _<_}
 use lib.ListN.{getD}
-use Rattle.meaning.specs.Curve.{Corner, Curve, Rising}
-use Rattle.laws.specs.Shape.{Climbing, Concave}
+use Rattle.meaning.specs.Curve.{Corner, Curve, Rising, Climbing, Concave}
 use Rattle.laws.specs.Indexed.{listFrom}
 
 -- the corner at a place of a block

@@ -6,9 +6,8 @@ use Prim.Native.Nat.{ℕ, suc, _*_, _≤_, _<_, zero-le}
 use native.Mathlib.Nat.{le-refl}
 use native.Mathlib.Omega.{arith}
 use lib.ListN.{length, getD}
-use Rattle.meaning.specs.Curve.{Corner, Curve, Rising}
+use Rattle.meaning.specs.Curve.{Corner, Curve, Rising, Climbing, Concave}
 use Rattle.laws.specs.Order.{le-or-lt, eq-or-ne}
-use Rattle.laws.specs.Shape.{Climbing, Concave}
 use Rattle.laws.specs.Filling.{Pick, Picked, Next, Order, steppedFrom, advance, advance-same, advance-other, picked-run}
 use Rattle.laws.specs.Merging.{none, within, within-inside, within-before, within-after, order-interval, picksFrom}
 use Rattle.stall.specs.Packed.{between, Every, Orders}

@@ -26,7 +26,7 @@ pub fn record(kind: u16, body: &[u8]) -> Vec<u8> {
     record
 }
 
-fn head_record(plan: &Plan) -> Vec<u8> {
+pub fn head_record(plan: &Plan) -> Vec<u8> {
     let mut body = vec![plan.cores, 0];
     body.extend((plan.slots_per_period as u16).to_le_bytes());
     body.extend((plan.lengths.len() as u16).to_le_bytes());
@@ -69,6 +69,23 @@ pub fn records(plan: &Plan, listed: &[Workload]) -> Records {
 
 pub fn bytes(plan: &Plan, listed: &[Workload]) -> Vec<u8> {
     records(plan, listed).concat()
+}
+
+/// The input of document 01's listing.
+pub fn example() -> Records {
+    let plan = Plan {
+        cores: 4,
+        slots_per_period: 16,
+        lengths: vec![1, 4],
+        budgets: vec![2, 2, 5, 7, 4, 4, 4, 4],
+    };
+    let listed = [5, 3].map(|horizon| Workload {
+        core: 3,
+        computing: 10,
+        requests: 10,
+        horizon,
+    });
+    records(&plan, &listed)
 }
 
 /// A sound plan and workloads for it, whose values may be refused.

@@ -9,15 +9,22 @@ mod plans;
 mod questions;
 mod random;
 mod refusals;
+mod sweep;
 mod workloads;
+mod written;
 
-use std::io::{self, BufWriter, Write};
+use std::io::{self, BufRead, BufWriter, Write};
 use std::path::Path;
 use std::process::ExitCode;
 
+use sweep::Swept;
+
 const USAGE: &str = "usage: generate questions | stored | small | runs SEED COUNT [FIRST]
        generate files SEED COUNT DIR
-       generate measured DIR";
+       generate measured DIR
+       generate sweep [NUMBER]
+       generate lines
+       generate written < ANSWERS";
 
 /// Question `number` under a seed.
 type Stream = fn(u64, u64) -> Vec<u8>;
@@ -46,6 +53,14 @@ fn run(words: &[&str]) -> Option<io::Result<()>> {
             Some(write_files(seed, count, Path::new(folder)))
         }
         ["measured", folder] => Some(measured::write_files(Path::new(folder))),
+        ["sweep"] => Some(write_sweep(&sweep::all())),
+        ["sweep", number] => {
+            let number: usize = number.parse().ok()?;
+            let asked = sweep::all().into_iter().nth(number.checked_sub(1)?)?;
+            Some(write_sweep(&[asked]))
+        }
+        ["lines"] => Some(write_lines()),
+        ["written"] => Some(write_written()),
         [mode, seed, count, first @ ..] => {
             let stream: Stream = match *mode {
                 "questions" => questions::mixed,
@@ -72,6 +87,34 @@ fn write_stream(stream: Stream, seed: u64, first: u64, count: u64) -> io::Result
     let mut output = BufWriter::new(io::stdout().lock());
     for number in (first..).take(count as usize) {
         output.write_all(&stream(seed, number))?;
+    }
+    output.flush()
+}
+
+fn write_sweep(swept: &[Swept]) -> io::Result<()> {
+    let mut output = BufWriter::new(io::stdout().lock());
+    for file in swept {
+        output.write_all(&file.question())?;
+    }
+    output.flush()
+}
+
+/// For each file of the sweep the answer of a writer that wrote it.
+fn write_lines() -> io::Result<()> {
+    let mut output = BufWriter::new(io::stdout().lock());
+    for file in sweep::all() {
+        writeln!(output, "{}", file.written())?;
+    }
+    output.flush()
+}
+
+/// A question to the writer for each file that a reader accepted.
+fn write_written() -> io::Result<()> {
+    let mut output = BufWriter::new(io::stdout().lock());
+    for line in io::stdin().lock().lines() {
+        if let Some(question) = written::question(&line?) {
+            output.write_all(&question)?;
+        }
     }
     output.flush()
 }

@@ -29,7 +29,7 @@ pub fn write_files(folder: &Path) -> io::Result<()> {
     std::fs::create_dir_all(folder)?;
     let write = |name: String, bytes: Vec<u8>| std::fs::write(folder.join(name), bytes);
     write("empty.plan".to_string(), Vec::new())?;
-    write("small.plan".to_string(), listed_in_01())?;
+    write("small.plan".to_string(), files::example().concat())?;
     write("longest.plan".to_string(), longest())?;
     write("longest-budget-1.plan".to_string(), longest_budget_one())?;
     for intervals in [1, 2, 4, 8, 16, 32, 64] {
@@ -48,23 +48,6 @@ pub fn write_files(folder: &Path) -> io::Result<()> {
         write(format!("rounds-{rounds}.plan"), of_rounds(rounds))?;
     }
     Ok(())
-}
-
-/// The input of document 01's listing.
-fn listed_in_01() -> Vec<u8> {
-    let plan = Plan {
-        cores: 4,
-        slots_per_period: 16,
-        lengths: vec![1, 4],
-        budgets: vec![2, 2, 5, 7, 4, 4, 4, 4],
-    };
-    let listed = [5, 3].map(|horizon| Workload {
-        core: 3,
-        computing: 10,
-        requests: 10,
-        horizon,
-    });
-    files::bytes(&plan, &listed)
 }
 
 /// A plan of 64 intervals of nearly equal length in which every core has a

@@ -294,13 +294,17 @@ fn some_rate(random: &mut Random, seen: &CorePlan) -> u64 {
 /// The question "read a plan file": six lent places, then the file.
 fn reading(random: &mut Random) -> Vec<u8> {
     let (bytes, rooms) = files::for_reading(random);
+    read_record(rooms, &bytes)
+}
+
+pub fn read_record(rooms: [u16; 6], bytes: &[u8]) -> Vec<u8> {
     let mut body = in_two_bytes(&rooms);
     body.extend(bytes);
     record(READ, &body)
 }
 
 /// The four lists of workload values, which may differ in length.
-struct Lists {
+pub struct Lists {
     cores: Vec<u8>,
     computing: Vec<u32>,
     requests: Vec<u32>,
@@ -308,7 +312,7 @@ struct Lists {
 }
 
 impl Lists {
-    fn new(listed: &[Workload]) -> Self {
+    pub fn new(listed: &[Workload]) -> Self {
         Lists {
             cores: listed.iter().map(|workload| workload.core).collect(),
             computing: listed.iter().map(|workload| workload.computing).collect(),
@@ -358,7 +362,7 @@ fn writing(random: &mut Random) -> Vec<u8> {
     write_record(&plan, &lists, room as u16)
 }
 
-fn write_record(plan: &Plan, lists: &Lists, room: u16) -> Vec<u8> {
+pub fn write_record(plan: &Plan, lists: &Lists, room: u16) -> Vec<u8> {
     let mut body = vec![plan.cores];
     body.extend(plan.slots_per_period.to_le_bytes());
     body.extend(room.to_le_bytes());

@@ -1,81 +1,74 @@
 use mathlib.Core.Path.{subst}
-use Prim.Native.Nat.{_≤_}
+use mathlib.Core.List.{List}
+use Prim.Native.Nat.{ℕ}
 use denote.Ref.{now}
-use lib.ListN.{length}
-use Rattle.meaning.specs.Promises.{Places, ReadPromise}
-use Rattle.planfile.specs.Reading.{readFigures, placesOf}
-use Rattle.planfile.specs.declared.ReadAnswer.{ReadAnswer}
-use Rattle.spans.specs.Found.{found-offset, found-room}
+use Rattle.meaning.specs.PlanFile.{readFile}
+use Rattle.meaning.specs.Promises.{Places}
+use Rattle.planfile.specs.Reading.{placesOf}
+use Rattle.spans.specs.declared.Opening.{Opening}
+use Rattle.spans.specs.Found.{FirstLine, refused-line-within, plan-line-within, behind-plan-line}
 use borrow.Author.Needs.{needs}
 use Rattle.spans.proofs.print_listing.Statement.{statement}
 use Rattle.spans.proofs.print_listing.Tie as tie
 
-abbrev startOf : tie.After-read → tie.Start
-startOf c = c .before .before .before .before .before .before .before .before .before .before .before .before .before .before .before .before
+abbrev startOf : tie.After-first-line → tie.Start
+startOf c = c .before .before .before .before .before .before .before .before .before .before .before .before .before .before .before .before .before
 
--- the places before the reading
-abbrev placesAt : tie.Start → Places
-placesAt c =
-    placesOf
-    (now (c .args .lengths))
-    (now (c .args .budgets))
-    (now (c .args .analysed))
-    (now (c .args .computing))
-    (now (c .args .requests))
-    (now (c .args .horizons))
-
--- and after it
-abbrev placesAfter : tie.After-read → Places
+-- the places that the file was read into
+abbrev placesAfter : tie.After-first-line → Places
 placesAfter c =
     placesOf
-    (c .read .last .1 .0)
-    (c .read .last .1 .1 .0)
-    (c .read .last .1 .1 .1 .0)
-    (c .read .last .1 .1 .1 .1 .0)
-    (c .read .last .1 .1 .1 .1 .1 .0)
-    (c .read .last .1 .1 .1 .1 .1 .1 .0)
+    (c .first-line .last .1 .0)
+    (c .first-line .last .1 .1 .0)
+    (c .first-line .last .1 .1 .1 .0)
+    (c .first-line .last .1 .1 .1 .1 .0)
+    (c .first-line .last .1 .1 .1 .1 .1 .0)
+    (c .first-line .last .1 .1 .1 .1 .1 .1 .0)
 
--- what the reader promises, with an answer of this case
-abbrev Reads : tie.After-read → ReadAnswer → Type 0
-Reads c answer =
-    ReadPromise (now (startOf c .args .file)) (placesAt (startOf c)) (readFigures answer) (placesAfter c)
+-- the line, once it was built
+abbrev lineAfter : tie.After-first-line → List ℕ
+lineAfter c = c .first-line .last .1 .1 .1 .1 .1 .1 .1 .0
 
-read-requires : tie.Need-read-requires
-read-requires c κs = search needs
+-- what the first line promises, with an opening of this case
+abbrev Opens : tie.After-first-line → Opening → Type 0
+Opens c opening =
+    FirstLine (readFile (now (startOf c .args .file))) (placesAfter c) (now (startOf c .args .line)) opening (lineAfter c)
 
-enum-known-refusal : tie.Need-enum-known-refusal
-enum-known-refusal c = search needs
+first-line-requires : tie.Need-first-line-requires
+first-line-requires c κs = search needs
 
-cast-print-file-refused : tie.Need-cast-print-file-refused
-cast-print-file-refused c =
-    let known = c .before in
-    let call = known .before .before .before .before .before .before .before .before .before .before .before .before .before .before in
-    let within : known .refusal .given .0 .1 .0 ≤ length (now (startOf call .args .file)) =
-    found-offset _ (placesAt (startOf call)) (placesAfter call) (known .refusal .given .0 .0) _ (subst (Reads call) (known .refusal .given .1) (call .read .ensures)) in
-    search (needs, within, startOf call .pre .0)
+enum-known-built : tie.Need-enum-known-built
+enum-known-built c = search needs
 
-print-file-refused-requires : tie.Need-print-file-refused-requires
-print-file-refused-requires c κs = search needs
+print-requires : tie.Need-print-requires
+print-requires c κs =
+    let known = c .before .before in
+    let call = known .before .before .before .before .before .before .before .before .before .before .before .before .before .before .before .before in
+    refused-line-within
+    (readFile (now (startOf call .args .file)))
+    (placesAfter call)
+    (now (startOf call .args .line))
+    (lineAfter call)
+    (known .built .given .0 .0)
+    (subst (Opens call) (known .built .given .1) (call .first-line .ensures))
+    (search needs)
 
 enum-known-found : tie.Need-enum-known-found
 enum-known-found c = search needs
 
-print-found-requires : tie.Need-print-found-requires
-print-found-requires c κs =
-    let known = c .before .before .before .before .before .before .before .before .before in
-    let call = known .before .before .before .before .before .before .before .before .before .before .before .before .before .before in
-    let found = found-room _ (placesAt (startOf call)) (placesAfter call) _ (subst (Reads call) (known .found .given .1) (call .read .ensures)) in
-    let room = found .1 in (
-      (found .0, startOf call .pre .1, startOf call .pre .2),
-      record {
-        lengths = search (needs, room .lengths);
-        budgets = search (needs, room .budgets);
-        cores = search (needs, room .cores);
-        computing = search (needs, room .computing);
-        requests = search (needs, room .requests);
-        horizons = search (needs, room .horizons);
-      },
-    )
+print-requires-2 : tie.Need-print-requires-2
+print-requires-2 c κs =
+    let known = c .before .before in
+    let call = known .before .before .before .before .before .before .before .before .before .before .before .before .before .before .before .before in
+    plan-line-within
+    (readFile (now (startOf call .args .file)))
+    (placesAfter call)
+    (now (startOf call .args .line))
+    (lineAfter call)
+    (known .found .given .0 .0)
+    (known .found .given .0 .1 .0)
+    (subst (Opens call) (known .found .given .1) (call .first-line .ensures))
+    (search needs)
 
 same-length : tie.Need-same-length
 same-length c = search needs
@@ -101,6 +94,22 @@ same-length-7 c = search needs
 returns : tie.Need-returns
 returns c = search needs
 
+print-rest-requires : tie.Need-print-rest-requires
+print-rest-requires c κs =
+    let known = c .before .before .before .before .before .before .before .before .before .before .before .before in
+    let call = known .before .before .before .before .before .before .before .before .before .before .before .before .before .before .before .before in
+    let start = startOf call in
+    let behind =
+    behind-plan-line
+    (readFile (now (start .args .file)))
+    (placesAfter call)
+    (now (start .args .line))
+    (lineAfter call)
+    (known .found .given .0 .0)
+    (known .found .given .0 .1 .0)
+    (subst (Opens call) (known .found .given .1) (call .first-line .ensures)) in
+    ((behind .0, start .pre .0 .1, search (needs, start .pre .0 .2)), behind .1)
+
 same-length-8 : tie.Need-same-length-8
 same-length-8 c = search needs
 
@@ -122,22 +131,45 @@ same-length-13 c = search needs
 same-length-14 : tie.Need-same-length-14
 same-length-14 c = search needs
 
+returns-2 : tie.Need-returns-2
+returns-2 c = search needs
+
 same-length-15 : tie.Need-same-length-15
 same-length-15 c = search needs
 
-returns-2 : tie.Need-returns-2
-returns-2 c = search needs
+same-length-16 : tie.Need-same-length-16
+same-length-16 c = search needs
+
+same-length-17 : tie.Need-same-length-17
+same-length-17 c = search needs
+
+same-length-18 : tie.Need-same-length-18
+same-length-18 c = search needs
+
+same-length-19 : tie.Need-same-length-19
+same-length-19 c = search needs
+
+same-length-20 : tie.Need-same-length-20
+same-length-20 c = search needs
+
+same-length-21 : tie.Need-same-length-21
+same-length-21 c = search needs
+
+same-length-22 : tie.Need-same-length-22
+same-length-22 c = search needs
+
+returns-3 : tie.Need-returns-3
+returns-3 c = search needs
 
 pub print-listing-spec : {M : Type 1} → statement M
 print-listing-spec =
     tie.close
     (tie.spec
-    read-requires
-    enum-known-refusal
-    cast-print-file-refused
-    print-file-refused-requires
+    first-line-requires
+    enum-known-built
+    print-requires
     enum-known-found
-    print-found-requires
+    print-requires-2
     same-length
     same-length-2
     same-length-3
@@ -146,6 +178,7 @@ print-listing-spec =
     same-length-6
     same-length-7
     returns
+    print-rest-requires
     same-length-8
     same-length-9
     same-length-10
@@ -153,5 +186,13 @@ print-listing-spec =
     same-length-12
     same-length-13
     same-length-14
+    returns-2
     same-length-15
-    returns-2)
+    same-length-16
+    same-length-17
+    same-length-18
+    same-length-19
+    same-length-20
+    same-length-21
+    same-length-22
+    returns-3)

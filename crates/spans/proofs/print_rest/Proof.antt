@@ -4,31 +4,17 @@ use native.Mathlib.Omega.{arith}
 use denote.Ref.{now}
 use lib.Seq.{length-take-le}
 use borrow.Author.Needs.{needs}
-use Rattle.spans.proofs.print_found.Statement.{statement}
-use Rattle.spans.proofs.print_found.Tie as tie
+use Rattle.spans.proofs.print_rest.Statement.{statement}
+use Rattle.spans.proofs.print_rest.Tie as tie
 
--- where the first line is asked for
-abbrev startOf : tie.After-print-plan-arg → tie.Start
-startOf c = c .before .before .before .before .before .before .before .before .before .before
-
--- where the lines of the workloads are asked for
 abbrev planned : tie.After-print-workloads-arg → tie.Start
-planned c = startOf (c .before .before .before .before .before)
+planned c = c .before .before .before .before .before .before .before .before .before .before
 
 cast-numbers : tie.Need-cast-numbers
 cast-numbers c = search needs
 
 mul-numbers : tie.Need-mul-numbers
 mul-numbers c = search needs
-
-slice-aggregate-print-plan : tie.Need-slice-aggregate-print-plan
-slice-aggregate-print-plan c = sym (length-take-le _ _ (startOf c .pre .1 .lengths))
-
-print-plan-requires : tie.Need-print-plan-requires
-print-plan-requires c κs =
-    let start = startOf (c .before) in
-    let front = length-take-le _ (now (start .args .lengths)) (start .pre .1 .lengths) in
-    (omega (arith, front, start .pre .0 .0 .intervals), start .pre .0 .2)
 
 slice-aggregate-print-workloads : tie.Need-slice-aggregate-print-workloads
 slice-aggregate-print-workloads c = sym (length-take-le _ _ (planned c .pre .1 .lengths))
@@ -76,12 +62,6 @@ print-workloads-requires c κs =
       },
     )
 
-cast-print-end : tie.Need-cast-print-end
-cast-print-end c = search (needs, planned (c .before .before .before .before .before .before .before .before .before .before .before .before) .pre .0 .0 .workloads)
-
-print-end-requires : tie.Need-print-end-requires
-print-end-requires c κs = search needs
-
 same-length : tie.Need-same-length
 same-length c = search needs
 
@@ -91,14 +71,27 @@ same-length-2 c = search needs
 returns : tie.Need-returns
 returns c = search needs
 
-pub print-found-spec : {M : Type 1} → statement M
-print-found-spec =
+cast-print-end : tie.Need-cast-print-end
+cast-print-end c = search needs
+
+print-end-requires : tie.Need-print-end-requires
+print-end-requires c κs = search needs
+
+same-length-3 : tie.Need-same-length-3
+same-length-3 c = search needs
+
+same-length-4 : tie.Need-same-length-4
+same-length-4 c = search needs
+
+returns-2 : tie.Need-returns-2
+returns-2 c = search needs
+
+pub print-rest-spec : {M : Type 1} → statement M
+print-rest-spec =
     tie.close
     (tie.spec
     cast-numbers
     mul-numbers
-    slice-aggregate-print-plan
-    print-plan-requires
     slice-aggregate-print-workloads
     slice-aggregate-print-workloads-2
     slice-aggregate-print-workloads-3
@@ -108,8 +101,11 @@ print-found-spec =
     slice-relend-prefix-print-workloads
     slice-aggregate-print-workloads-7
     print-workloads-requires
-    cast-print-end
-    print-end-requires
     same-length
     same-length-2
-    returns)
+    returns
+    cast-print-end
+    print-end-requires
+    same-length-3
+    same-length-4
+    returns-2)
