@@ -128,10 +128,11 @@ RowHolds (spanRow p w a xs) = SpanAnswer p w (intervals p) a xs
 RowHolds (termsRow p w terms) = Terms p w terms
 RowHolds (placementRow p core requests n stall xs) = AnsweredAt p core requests n xs stall
 
--- the corners of cores 1, 3 and 4, of core 3 with equal budgets, and of the core that is alone
+-- the corners of core 1
 abbrev curve1 : Curve
 curve1 = record { first = record { rate = 0; stall = 0 }; rest = record { rate = 2; stall = 14 } ∷ [] }
 
+-- the corners of core 3
 abbrev curve3 : Curve
 curve3 =
     record {
@@ -139,6 +140,7 @@ curve3 =
       rest = record { rate = 2; stall = 6 } ∷ record { rate = 5; stall = 11 } ∷ [];
     }
 
+-- the corners of core 4
 abbrev curve4 : Curve
 curve4 =
     record {
@@ -146,12 +148,15 @@ curve4 =
       rest = record { rate = 2; stall = 6 } ∷ record { rate = 5; stall = 9 } ∷ record { rate = 7; stall = 9 } ∷ [];
     }
 
+-- the corners of core 3 with equal budgets
 abbrev equal3 : Curve
 equal3 = record { first = record { rate = 0; stall = 0 }; rest = record { rate = 4; stall = 12 } ∷ [] }
 
+-- the corners of the core that is alone
 abbrev whole1 : Curve
 whole1 = record { first = record { rate = 0; stall = 0 }; rest = record { rate = 16; stall = 0 } ∷ [] }
 
+-- the corners of core 3 in the second interval of 004's section VI
 abbrev second3 : Curve
 second3 =
     record {
@@ -164,6 +169,7 @@ second3 =
           ∷ [];
     }
 
+-- and in the third
 abbrev third3 : Curve
 third3 = record { first = record { rate = 0; stall = 0 }; rest = record { rate = 1; stall = 15 } ∷ [] }
 

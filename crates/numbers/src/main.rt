@@ -364,7 +364,7 @@ fn spans() {
     span_of_listing(b"P10, H = 3:", Periods(3));
 }
 
-// The limits of 01's "Units and bounds", at the limit and one past it.
+// Computing, requests and the length of a file, at their limits and one past them.
 fn limits() {
     let all = Slots(Slots::MAX);
     let past = Slots(Slots::MAX + 1);
@@ -393,6 +393,7 @@ fn limits() {
     longest_file(b"the longest file in a place of 5,641 bytes:", &mut short);
 }
 
+// All of them, in the order of the document.
 fn main() {
     curves();
     spans();

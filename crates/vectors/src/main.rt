@@ -25,9 +25,10 @@ mod line; // line.rt: the text of an answer
 mod places; // places.rt: fixed places
 mod plans; // plans.rt: placement and span
 
-// Room for the longest body, and for the longest line: six places of 8,192 numbers of at most 44 characters together.
+// Room for the longest body.
 const BODY: usize = 65_535;
 
+// Room for the longest line: six places of 8,192 numbers of at most 44 characters together.
 const LINE: usize = 400_000;
 
 // Every loop ends: so many records are answered at most.
