@@ -7,7 +7,7 @@ use native.Mathlib.Omega.{arith}
 use lib.ListN.{length, drop, length-append, length-drop}
 use lib.Dec.{leb}
 use Rattle.meaning.specs.Plan.{Plan, mostIntervals}
-use Rattle.meaning.specs.Promises.{SpanFigures, written}
+use Rattle.meaning.specs.Promises.{written}
 use Rattle.meaning.specs.Listing.{planLine, spanLine}
 use Rattle.listing.specs.declared.Line.{Line}
 
@@ -57,9 +57,3 @@ plan-text p = refl
 abbrev pub spanText : ℕ → ℕ → ℕ → ℕ → List ℕ → List ℕ
 spanText number span stall rounds requests =
     spanLine number (record { refused = 0; span = span; stall = stall; rounds = rounds }) requests
-
--- it is the line of any answer with this span, stall and rounds
-pub span-text : (number : ℕ) (a : SpanFigures) (requests : List ℕ)
-    → spanText number (a .span) (a .stall) (a .rounds) requests ≡ spanLine number a requests
-unfolding spanLine
-span-text number a requests = refl

@@ -29,7 +29,7 @@ block-at : (ns : List ℕ) (k : ℕ) → getD (blockOf ns) k 0 ≡ getD ns k 0
 block-at ns k = zeros-after ns (replicate (9 - length ns) 0) (zeros (9 - length ns)) k
 
 -- a block that holds the corners of a curve is read as that curve
-pub block-curve : (c : Curve) (b : Block) → Holds c b → curveOf (b .count) (b .rates) (b .stalls) ≡ c
+block-curve : (c : Curve) (b : Block) → Holds c b → curveOf (b .count) (b .rates) (b .stalls) ≡ c
 unfolding noCorner
 block-curve c b holds =
     let rate : (k : ℕ) → getD (b .rates) k 0 ≡ getD (rates c) k 0 =

@@ -44,7 +44,7 @@ pub periods-held : (q n : ℕ) → 1 ≤ q → periodsHolding n q ≡ periodsOf 
 periods-held q n some = rw (ne-eqb q 0 (λ e. omega (arith, some, e)))
 
 -- more slots than the longest plan has are held by more periods than it has
-pub held-past : (q n : ℕ) → 1 ≤ q → q ≤ mostPerPeriod → mostWork < n → mostPeriods < holding q n
+held-past : (q n : ℕ) → 1 ≤ q → q ≤ mostPerPeriod → mostWork < n → mostPeriods < holding q n
 held-past q n some few long =
     ⊎-elim
     (λ le.

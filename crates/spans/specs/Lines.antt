@@ -2,7 +2,7 @@
 use mathlib.Core.Path.{_≡_, refl, sym, ap, _∙_, subst}
 use mathlib.Core.Bool.{Bool, true, false, true≢false, _&&_}
 use mathlib.Core.List.{List, [], _∷_}
-use Prim.Native.Nat.{ℕ, suc, _+_, _≤_}
+use Prim.Native.Nat.{ℕ, zero, suc, _+_, _≤_, _<_}
 use native.Mathlib.Numerals.{add-one}
 use native.Mathlib.Omega.{arith}
 use lib.ListN.{length}
@@ -19,6 +19,7 @@ use Rattle.units.specs.declared.Refusal.{Refusal}
 use Rattle.units.specs.declared.Slots.{Slots}
 use Rattle.units.specs.declared.Periods.{Periods}
 use Rattle.units.specs.Refusals.{numberOf}
+use Rattle.planfile.specs.Passing.{some-number}
 use Rattle.span.specs.Figures.{spanFigures}
 use Rattle.span.specs.declared.SpanAnswer as answer
 use Rattle.listing.specs.Promise.{room, roomFor, spanText, LinePromise, line-within}
@@ -73,28 +74,12 @@ pub workload-within : (f : PlanFile) (index : ℕ) (before after : List ℕ) (bu
 workload-within f index before after built h enough kept =
     built-within (h .0) (leb room (length before)) before after built (h .2) (le-leb _ _ enough) kept
 
--- no refusal has the number 0
-refused-text : (number : ℕ) (a : SpanFigures) (xs : List ℕ) (refusal : Refusal)
-    → refusedLine number (numberOf refusal) ≡ answerLine number a xs (numberOf refusal)
-refused-text number a xs Refusal.CoresOutside = refl
-refused-text number a xs Refusal.SlotsPerPeriodOutside = refl
-refused-text number a xs Refusal.IntervalsOutside = refl
-refused-text number a xs Refusal.PeriodsOutside = refl
-refused-text number a xs Refusal.BudgetsNotWhole = refl
-refused-text number a xs Refusal.CoreOutside = refl
-refused-text number a xs Refusal.NoBudget = refl
-refused-text number a xs Refusal.ComputingOutside = refl
-refused-text number a xs Refusal.RequestsOutside = refl
-refused-text number a xs Refusal.HorizonOutside = refl
-refused-text number a xs Refusal.NoRoom = refl
-refused-text number a xs Refusal.NoSpan = refl
-refused-text number a xs Refusal.RateAboveBudget = refl
-refused-text number a xs Refusal.FileEnds = refl
-refused-text number a xs Refusal.KindNotAllowed = refl
-refused-text number a xs Refusal.LengthWrong = refl
-refused-text number a xs Refusal.BitsNotZero = refl
-refused-text number a xs Refusal.ListedBudgetZero = refl
-refused-text number a xs Refusal.TooManyWorkloads = refl
+-- the line of an answer with a refusal's number is that of the refusal
+refused-text : (number : ℕ) (a : SpanFigures) (xs : List ℕ) (n : ℕ)
+    → 0 < n
+    → refusedLine number n ≡ answerLine number a xs n
+refused-text number a xs zero some = absurd (omega (arith, some))
+refused-text number a xs (suc n) some = refl
 
 -- the line of a refused workload
 pub refused-line : (f : PlanFile) (index : ℕ) (place placed before after : List ℕ) (built : Line) (refusal : Refusal)
@@ -115,7 +100,7 @@ refused-line f index place placed before after built refusal size h line =
         a,
         h .0,
         subst (λ (n : ℕ). SpanAnswer (f .plan) w n a (h .0)) size (h .1),
-        rw add-one (refused-text (suc index) a (h .0) refusal),
+        rw add-one (refused-text (suc index) a (h .0) (numberOf refusal) (some-number refusal)),
       ),
       rw (← few-numbers 0 (length before) (omega arith)) line,
     )

@@ -3,9 +3,10 @@ ghost use mathlib.Core.Path.{_≡_};
 ghost use Prim.Native.Nat.{_≤_, _<_};
 ghost use lib.ListN.{length};
 ghost use Rattle.io.specs.Counts.{Counts};
-ghost use Rattle.meaning.specs.Plan.{mostIntervals};
+ghost use Rattle.meaning.specs.Plan.{mostIntervals, mostWorkloads};
+ghost use Rattle.meaning.specs.Listing.{endLine};
 ghost use Rattle.meaning.specs.PlanFile.{readFile};
-ghost use Rattle.listing.specs.Promise.{room};
+ghost use Rattle.listing.specs.Promise.{room, roomFor, LinePromise};
 ghost use Rattle.planfile.specs.Reading.{placesOf, workloadsOf};
 ghost use Rattle.planfile.specs.Answering.{Room};
 ghost use Rattle.planfile.specs.Writing.{fileGiven};
@@ -190,11 +191,24 @@ fn print_workloads(
     true
 }
 
-// The last line; whether it was written.
-fn print_end(count: u16, line: &mut [u8]) -> bool
-    requires { ⌜ room ≤ length (now line) ⌝ }
+// The last line: how many workloads there are.
+fn last_line(analysed: &[u8], line: &mut [u8]) -> Line
+    requires { ⌜ length (now analysed) ≤ mostWorkloads ⌝ }
+    ensures { λ r. ⌜ LinePromise
+        (endLine (length (now (analysed .entry))))
+        (roomFor 0 (length (now (line .entry))))
+        (now (line .entry))
+        r
+        (now (line .exit)) ⌝ }
 {
-    let built = listing::end_line(count, line);
+    listing::end_line(analysed.len() as u16, line)
+}
+
+// The last line, written; whether it was.
+fn print_end(analysed: &[u8], line: &mut [u8]) -> bool
+    requires { ⌜ (length (now analysed) ≤ mostWorkloads) × (room ≤ length (now line)) ⌝ }
+{
+    let built = last_line(analysed, line);
     print(line, built)
 }
 
@@ -232,7 +246,7 @@ fn print_rest(
     ) {
         return false;
     }
-    print_end(count as u16, line)
+    print_end(&analysed[..count], line)
 }
 
 // The listing of a file, which is read into the places; whether it was written.

@@ -8,21 +8,21 @@ use borrow.Author.Needs.{needs}
 use Rattle.spans.proofs.print_end.Statement.{statement}
 use Rattle.spans.proofs.print_end.Tie as tie
 
-end-line-requires : tie.Need-end-line-requires
-end-line-requires c κs = search needs
+last-line-requires : tie.Need-last-line-requires
+last-line-requires c κs = search needs
 
 print-requires : tie.Need-print-requires
 print-requires c κs =
     let call = c .before .before .before in
-    let a = call .before .before .before .args in
+    let start = call .before .before .before .before in
     built-within
-    (endLine (a .count))
-    (roomFor 0 (length (now (a .line))))
-    (now (a .line))
-    (call .end-line .last .1 .0)
-    (call .end-line .result)
-    (call .end-line .ensures)
-    (room-for 0 (length (now (a .line))) (omega arith) (call .before .before .before .pre))
+    (endLine (length (now (start .args .analysed))))
+    (roomFor 0 (length (now (start .args .line))))
+    (now (start .args .line))
+    (call .last-line .last .1 .0)
+    (call .last-line .result)
+    (call .last-line .ensures)
+    (room-for 0 (length (now (start .args .line))) (omega arith) (start .pre .1))
     (search needs)
 
 same-length : tie.Need-same-length
@@ -32,4 +32,4 @@ returns : tie.Need-returns
 returns c = search needs
 
 pub print-end-spec : {M : Type 1} → statement M
-print-end-spec = tie.close (tie.spec end-line-requires print-requires same-length returns)
+print-end-spec = tie.close (tie.spec last-line-requires print-requires same-length returns)

@@ -71,11 +71,14 @@ same-length-2 c = search needs
 returns : tie.Need-returns
 returns c = search needs
 
-cast-print-end : tie.Need-cast-print-end
-cast-print-end c = search needs
+slice-aggregate-print-end : tie.Need-slice-aggregate-print-end
+slice-aggregate-print-end c = sym (length-take-le _ _ (planned (c .before .before .before .before .before .before .before .before .before .before .before .before .before .before) .pre .1 .cores))
 
 print-end-requires : tie.Need-print-end-requires
-print-end-requires c κs = search needs
+print-end-requires c κs =
+    let start = planned (c .before .before .before .before .before .before .before .before .before .before .before .before .before .before .before) in
+    let count = length-take-le _ (now (start .args .analysed)) (start .pre .1 .cores) in
+    (omega (arith, count, start .pre .0 .0 .workloads), search (needs, start .pre .0 .2))
 
 same-length-3 : tie.Need-same-length-3
 same-length-3 c = search needs
@@ -104,7 +107,7 @@ print-rest-spec =
     same-length
     same-length-2
     returns
-    cast-print-end
+    slice-aggregate-print-end
     print-end-requires
     same-length-3
     same-length-4
