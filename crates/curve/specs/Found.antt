@@ -10,20 +10,17 @@ use lib.Seq.{take-suc, getD-drop, ext-getD}
 use borrow.Author.Tests.{le-leb, lt-leb}
 use Rattle.meaning.specs.Plan.{budgetOf}
 use Rattle.meaning.specs.Curve.{Corner, Curve, Envelope, slope, raw, blockOf}
-use Rattle.laws.specs.Order.{le-or-lt}
-use Rattle.laws.specs.Shape.{Rises}
-use Rattle.laws.specs.Raw.{raw-rises, raw-le}
-use Rattle.laws.specs.Segments.{at-most-cores}
-use Rattle.laws.specs.Stack.{Stack, Open, turned, top-on-raw, open-first, open-pop, open-push, stack-envelope}
-use Rattle.curve.specs.Figures.{Holds, HoldsEnvelope}
+use Rattle.number_laws.specs.Order.{le-or-lt}
+use Rattle.number_laws.specs.Zeros.{zeros}
+use Rattle.curve_laws.specs.EnvelopeConcave.{Rises}
+use Rattle.curve_laws.specs.RawStall.{raw-rises, raw-le}
+use Rattle.curve_laws.specs.SegmentCount.{at-most-cores}
+use Rattle.curve_laws.specs.CornerStack.{Stack, Open, pointAt, turned, top-on-raw, open-first, open-pop, open-push, stack-envelope}
+use Rattle.curve.specs.Figures.{InBlock, HoldsEnvelope}
 use Rattle.curve.specs.Rows.{Interval}
-use Rattle.curve.specs.Step.{cornerAt, pointOf, Small, Ordered, stackOf, stackIn, lastSags, kept, Nine, Ready, Added, zeros, kept-step, kept-all, stack-length}
-use Rattle.curve.specs.declared.Block.{Block}
-use Rattle.curve.specs.declared.Corner as declared
-
--- the point of a raw stall at r
-abbrev pub pointAt : (ℕ → ℕ) → ℕ → Corner
-pointAt stallAt r = record { rate = r; stall = stallAt r }
+use Rattle.curve.specs.Step.{Small, Ordered, stackOf, stackIn, lastSags, kept, Nine, Ready, WithCorner, kept-step, kept-all, stack-length}
+use Rattle.units.specs.Given.{cornerAt}
+use Rattle.units.specs.declared.Block.{Block}
 
 -- where the slope does not fall the corner is taken off, and what stays is a stack again
 kept-stack : (stallAt : ℕ → ℕ) (n t : Corner) (s : List Corner)
@@ -42,37 +39,24 @@ kept-stack stallAt n t (u ∷ s) rises o =
     (λ lt. rw (kept-all n t (u ∷ s) (lt-leb left right lt)) (open-push stallAt n t (u ∷ s) o lt))
     (le-or-lt left right)
 
--- a stack whose top has this rate
-abbrev pub StackTo : (ℕ → ℕ) → ℕ → List Corner → Type 0
-StackTo stallAt top [] = ⊥
-StackTo stallAt top (t ∷ s) = (t .rate ≡ top) × Stack stallAt t s
+-- the corners of the raw stall at the rates below n, the last one first
+abbrev pub StackBelow : (ℕ → ℕ) → ℕ → List Corner → Type 0
+StackBelow stallAt n [] = n ≡ 0
+StackBelow stallAt n (t ∷ s) = (t .rate + 1 ≡ n) × Stack stallAt t s
 
--- the walk has come to this rate: the block has the corners of the raw stall up to it
-pub record Found (stallAt : ℕ → ℕ) (top : ℕ) (b : Block) : Type 0 where
+-- the walk has visited the rates below n: the block has the corners of the raw stall there
+pub record Found (stallAt : ℕ → ℕ) (n : ℕ) (b : Block) : Type 0 where
   pub rates : Nine (b .count) (b .rates)
   pub stalls : Nine (b .count) (b .stalls)
-  pub stack : StackTo stallAt top (stackIn b)
+  pub stack : StackBelow stallAt n (stackIn b)
 
--- a block with no corner, for the first one
-abbrev noCorners : Block
-noCorners = record { rates = replicate 9 0; stalls = replicate 9 0; count = 0 }
-
--- any corner can be put on it
-pub first-ready : (n : Corner) → Ready n (replicate 9 0) (replicate 9 0) 0
-unfolding stackOf kept
-first-ready n = record { rates = blank; stalls = blank; ordered = tt; room = omega arith }
+-- before the first rate there is no corner
+pub found-none : (stallAt : ℕ → ℕ) → Found stallAt 0 (record { rates = replicate 9 0; stalls = replicate 9 0; count = 0 })
+unfolding stackOf
+found-none stallAt = record { rates = blank; stalls = blank; stack = refl }
   where
     blank : Nine 0 (replicate 9 0)
     blank = record { most = omega arith; long = refl; blank = λ k le. zeros 9 k }
-
--- at rate 0 there is one corner
-pub found-first : (stallAt : ℕ → ℕ) (n : Corner) (r : Block)
-    → n ≡ pointAt stallAt 0
-    → Added n noCorners r
-    → Found stallAt 0 r
-unfolding stackOf kept
-found-first stallAt n r at h =
-    record { rates = h .rates; stalls = h .stalls; stack = rw (h .stack, at) (refl, (refl, refl)) }
 
 -- the rates of a stack rise, and its stalls do not fall
 ordered-stack : (stallAt : ℕ → ℕ) (q : ℕ) (t : Corner) (s : List Corner)
@@ -91,61 +75,56 @@ turned-length : (t : Corner) (s later : List Corner) → length (turned t s late
 turned-length t [] later = omega arith
 turned-length t (u ∷ s) later = omega (arith, turned-length u s (t ∷ later))
 
-module _
-    (stallAt : ℕ → ℕ)
-    (n : Corner)
-    (top : ℕ)
-    (rises : Rises stallAt (top + 1))
-    (at : n ≡ pointAt stallAt (top + 1))
-  where
-    rate-at : n .rate ≡ top + 1
-    rate-at = ap (λ (c : Corner). c .rate) at
+module _ (stallAt : ℕ → ℕ) (p : Corner) (n : ℕ) (rises : Rises stallAt n) (at : p ≡ pointAt stallAt n) where
+  rate-at : p .rate ≡ n
+  rate-at = ap (λ (c : Corner). c .rate) at
 
-    on-raw : n .stall ≡ stallAt (n .rate)
-    on-raw = rw at
+  on-raw : p .stall ≡ stallAt (p .rate)
+  on-raw = rw at
 
-    rises-to : Rises stallAt (n .rate)
-    rises-to = rw at rises
+  rises-to : Rises stallAt (p .rate)
+  rises-to = rw at rises
 
-    stack-next : (s : List Corner) → StackTo stallAt top s → Stack stallAt n (kept n s)
-    stack-next [] h = absurd h
-    stack-next (t ∷ s) h =
-        kept-stack stallAt n t s rises-to (open-first stallAt n t s (h .1) (omega (arith, rate-at, h .0)) on-raw)
+  stack-next : (s : List Corner) → StackBelow stallAt n s → Stack stallAt p (kept p s)
+  unfolding kept
+  stack-next [] h = (rate-at ∙ h, on-raw ∙ ap stallAt (rate-at ∙ h))
+  stack-next (t ∷ s) h =
+      kept-stack stallAt p t s rises-to (open-first stallAt p t s (h .1) (rate-at ∙ sym (h .0)) on-raw)
 
-    ordered-next : (s : List Corner) → StackTo stallAt top s → Ordered n s
-    ordered-next [] h = absurd h
-    ordered-next (t ∷ s) h =
-        let below : t .rate < n .rate = omega (arith, rate-at, h .0) in (
-          below,
-          omega (arith, on-raw, top-on-raw stallAt t s (h .1), rises-to (t .rate) (n .rate) (le-of-lt below) (le-refl (n .rate))),
-          ordered-stack stallAt (n .rate) t s rises-to (le-of-lt below) (h .1),
-        )
+  ordered-next : (s : List Corner) → StackBelow stallAt n s → Ordered p s
+  ordered-next [] h = tt
+  ordered-next (t ∷ s) h =
+      let below : t .rate < p .rate = omega (arith, rate-at, h .0) in (
+        below,
+        omega (arith, on-raw, top-on-raw stallAt t s (h .1), rises-to (t .rate) (p .rate) (le-of-lt below) (le-refl (p .rate))),
+        ordered-stack stallAt (p .rate) t s rises-to (le-of-lt below) (h .1),
+      )
 
-    -- the next corner can be put on, where an envelope up to it has at most nine corners
-    pub found-ready : (b : Block)
-        → ((c : Curve) → Envelope stallAt (top + 1) c → length (c .rest) < 9)
-        → Found stallAt top b
-        → Ready n (b .rates) (b .stalls) (b .count)
-    found-ready b few f =
-        let stack : Stack stallAt n (kept n (stackIn b)) = stack-next (stackIn b) (f .stack) in
-        let curve : Curve = turned n (kept n (stackIn b)) [] in
-        let envelope : Envelope stallAt (top + 1) curve =
-        subst (λ (q : ℕ). Envelope stallAt q curve) rate-at (stack-envelope stallAt n (kept n (stackIn b)) stack) in
-        record {
-          rates = f .rates;
-          stalls = f .stalls;
-          ordered = ordered-next (stackIn b) (f .stack);
-          room = omega (arith, turned-length n (kept n (stackIn b)) [], few curve envelope);
-        }
+  -- the point at n can be put on, where an envelope up to n has at most nine corners
+  found-ready : (b : Block)
+      → ((c : Curve) → Envelope stallAt n c → length (c .rest) < 9)
+      → Found stallAt n b
+      → Ready p (b .rates) (b .stalls) (b .count)
+  found-ready b few f =
+      let stack : Stack stallAt p (kept p (stackIn b)) = stack-next (stackIn b) (f .stack) in
+      let curve : Curve = turned p (kept p (stackIn b)) [] in
+      let envelope : Envelope stallAt n curve =
+      subst (λ (q : ℕ). Envelope stallAt q curve) rate-at (stack-envelope stallAt p (kept p (stackIn b)) stack) in
+      record {
+        rates = f .rates;
+        stalls = f .stalls;
+        ordered = ordered-next (stackIn b) (f .stack);
+        room = omega (arith, turned-length p (kept p (stackIn b)) [], few curve envelope);
+      }
 
-    -- and then the walk has come one rate further
-    pub found-next : (b r : Block) → Found stallAt top b → Added n b r → Found stallAt (top + 1) r
-    found-next b r f h =
-        record {
-          rates = h .rates;
-          stalls = h .stalls;
-          stack = rw (h .stack) (rate-at, stack-next (stackIn b) (f .stack));
-        }
+  -- and then the walk has come one rate further
+  found-next : (b r : Block) → Found stallAt n b → WithCorner p b r → Found stallAt (n + 1) r
+  found-next b r f h =
+      record {
+        rates = h .rates;
+        stalls = h .stalls;
+        stack = rw (h .stack) (ap (λ (k : ℕ). k + 1) rate-at, stack-next (stackIn b) (f .stack));
+      }
 
 -- one number of each corner of a curve
 abbrev numbersOf : (Corner → ℕ) → Curve → List ℕ
@@ -186,15 +165,16 @@ block-numbers number rs ss ns k at h =
 holds-stack : (stallAt : ℕ → ℕ) (q : ℕ) (rs ss : List ℕ) (k : ℕ)
     → Nine k rs
     → Nine k ss
-    → StackTo stallAt q (stackOf rs ss k)
-    → (c : Curve) × Envelope stallAt q c × Holds c (record { rates = rs; stalls = ss; count = k })
+    → StackBelow stallAt (q + 1) (stackOf rs ss k)
+    → (c : Curve) × Envelope stallAt q c × InBlock c (record { rates = rs; stalls = ss; count = k })
 unfolding stackOf
-holds-stack stallAt q rs ss zero ns ms h = absurd h
+holds-stack stallAt q rs ss zero ns ms h = absurd (omega arith)
 holds-stack stallAt q rs ss (suc k) ns ms h =
     let t : Corner = cornerAt rs ss k in
-    let s : List Corner = stackOf rs ss k in (
+    let s : List Corner = stackOf rs ss k in
+    let top : t .rate ≡ q = omega (arith, h .0) in (
       turned t s [],
-      subst (λ (n : ℕ). Envelope stallAt n (turned t s [])) (h .0) (stack-envelope stallAt t s (h .1)),
+      subst (λ (n : ℕ). Envelope stallAt n (turned t s [])) top (stack-envelope stallAt t s (h .1)),
       record {
         rates = block-numbers (λ (c : Corner). c .rate) rs ss rs k (λ j. refl) ns;
         stalls = block-numbers (λ (c : Corner). c .stall) rs ss ss k (λ j. refl) ms;
@@ -202,46 +182,47 @@ holds-stack stallAt q rs ss (suc k) ns ms h =
       },
     )
 
--- at the end of the walk the block holds the corners of the envelope
-pub found-holds : (stallAt : ℕ → ℕ) (top q : ℕ) (b : Block)
-    → top ≡ q
-    → Found stallAt top b
-    → (c : Curve) × Envelope stallAt q c × Holds c b
-found-holds stallAt top q b end f =
+-- once every rate up to q was visited the block holds the corners of the envelope
+pub found-holds : (stallAt : ℕ → ℕ) (n q : ℕ) (b : Block)
+    → n ≡ q + 1
+    → Found stallAt n b
+    → (c : Curve) × Envelope stallAt q c × InBlock c b
+found-holds stallAt n q b end f =
     holds-stack stallAt q (b .rates) (b .stalls) (b .count) (f .rates) (f .stalls)
-    (subst (λ (n : ℕ). StackTo stallAt n (stackIn b)) end (f .stack))
+    (subst (λ (k : ℕ). StackBelow stallAt k (stackIn b)) end (f .stack))
 
-module _ (perPeriod core : ℕ) (row : List ℕ) (i : Interval perPeriod core row) where
-  rises-below : (q : ℕ) → q ≤ budgetOf core row → Rises (raw perPeriod row core) q
-  rises-below q le r s up last = raw-rises perPeriod row core (i .whole .sums) r s up (le-trans last le)
+module _
+    (perPeriod core : ℕ)
+    (row : List ℕ)
+    (i : Interval perPeriod core row)
+    (p : Corner)
+    (r : ℕ)
+    (within : r ≤ budgetOf core row)
+    (at : p ≡ pointAt (raw perPeriod row core) r)
+  where
+    rises-below : Rises (raw perPeriod row core) r
+    rises-below a b up last = raw-rises perPeriod row core (i .whole .sums) a b up (le-trans last within)
 
-  -- a point of the raw stall up to the core's budget is a corner that a block has room for
-  pub point-small : (p : declared.Corner) (r : ℕ)
-      → r ≤ budgetOf core row
-      → pointOf p ≡ pointAt (raw perPeriod row core) r
-      → Small p
-  point-small p r le at =
-      let room = raw-le perPeriod row core (i .whole .sums) r le in
-      let rate = ap (λ (c : Corner). c .rate) at in
-      let stall = ap (λ (c : Corner). c .stall) at in
-      record { rate = omega (arith, i .slots); stall = omega (arith, i .slots) }
+    -- a point of the raw stall up to the core's budget is a corner that a block has room for
+    pub point-small : Small p
+    point-small =
+        let room = raw-le perPeriod row core (i .whole .sums) r within in
+        let rate = ap (λ (c : Corner). c .rate) at in
+        let stall = ap (λ (c : Corner). c .stall) at in
+        record { rate = omega (arith, i .slots); stall = omega (arith, i .slots) }
 
-  module _ (n : Corner) (r : ℕ) (below : r < budgetOf core row) (at : n ≡ pointAt (raw perPeriod row core) (r + 1)) where
-    next-within : r + 1 ≤ budgetOf core row
-    next-within = omega arith
-
-    -- the next corner of the interval can be put on: there are at most as many segments as cores
-    pub walk-ready : (b : Block) → Found (raw perPeriod row core) r b → Ready n (b .rates) (b .stalls) (b .count)
+    -- it can be put on: there are at most as many segments as cores
+    pub walk-ready : (b : Block) → Found (raw perPeriod row core) r b → Ready p (b .rates) (b .stalls) (b .count)
     walk-ready b =
-        found-ready (raw perPeriod row core) n r (rises-below (r + 1) next-within) at b
-        (λ c e. omega (arith, i .cores, at-most-cores perPeriod row core (r + 1) c (i .whole .sums) next-within e))
+        found-ready (raw perPeriod row core) p r rises-below at b
+        (λ c e. omega (arith, i .cores, at-most-cores perPeriod row core r c (i .whole .sums) within e))
 
     -- and then the walk over the interval has come one rate further
     pub walk-next : (b b′ : Block)
         → Found (raw perPeriod row core) r b
-        → Added n b b′
+        → WithCorner p b b′
         → Found (raw perPeriod row core) (r + 1) b′
-    walk-next = found-next (raw perPeriod row core) n r (rises-below (r + 1) next-within) at
+    walk-next = found-next (raw perPeriod row core) p r rises-below at
 
 -- a block that holds the corners of an interval has at most nine
 pub holds-most : (perPeriod core : ℕ) (row : List ℕ) (b : Block)

@@ -2,5 +2,3 @@ pub mod Figures
 pub mod Rows
 pub mod Step
 pub mod Found
-pub mod Written
-pub mod Asked

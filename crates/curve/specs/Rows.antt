@@ -9,7 +9,7 @@ use lib.ListN.{length, getD, drop, drop-of-length-le}
 use lib.Seq.{drop-cons}
 use Rattle.meaning.specs.Plan.{mostCores, mostPerPeriod, sumOf, budgetOf}
 use Rattle.meaning.specs.Curve.{others, sumOfSmaller, raw}
-use Rattle.laws.specs.Raw.{others-sum, raw-below, raw-full}
+use Rattle.curve_laws.specs.RawStall.{others-sum, raw-below, raw-full}
 
 -- the budgets of one interval sum to Q, and the core is one of theirs
 pub record Whole (perPeriod core : ℕ) (row : List ℕ) : Type 0 where
@@ -47,9 +47,9 @@ unfolding sumOfSmaller
 smaller-from r i row h = rw (add-one, drop-cons row i 0 h)
 
 -- from the end on there is none
-pub smaller-none : (r i : ℕ) (row : List ℕ) → length row ≤ i → sumOfSmaller r (drop i row) ≡ 0
+pub smaller-past-end : (r i : ℕ) (row : List ℕ) → length row ≤ i → sumOfSmaller r (drop i row) ≡ 0
 unfolding sumOfSmaller
-smaller-none r i row h = rw (drop-of-length-le row h)
+smaller-past-end r i row h = rw (drop-of-length-le row h)
 
 -- the other cores' part of the sum and the core's own make up the whole
 smaller-others : (r i : ℕ) (row : List ℕ)

@@ -7,65 +7,27 @@ use Prim.Native.Nat.{ℕ, zero, suc, _+_, _-_, _*_, _^_, _≤_, _<_}
 use native.Mathlib.Nat.{le-refl, le-trans, le-of-lt, lt-trans, lt-of-le-of-lt, mul-le-mul, eq-or-lt-of-le}
 use native.Mathlib.Numerals.{add-one, sub-one}
 use native.Mathlib.Omega.{arith}
-use lib.ListN.{length, getD, set, replicate, length-set}
+use lib.ListN.{length, getD, set, length-set}
 use lib.Seq.{getD-set-same, getD-set-other}
 use lib.Dec.{leb, lit<}
-use Rattle.meaning.specs.Fraction.{Fraction}
 use Rattle.meaning.specs.Curve.{Corner, slope}
-use Rattle.curve.specs.declared.Block.{Block}
+use Rattle.units.specs.Given.{cornerAt}
+use Rattle.units.specs.declared.Block.{Block}
 use Rattle.curve.specs.declared.Corner as declared
-use Rattle.curve.specs.declared.Slope.{Slope}
-
--- the corner at a place of a block's rates and stalls
-abbrev pub cornerAt : List ℕ → List ℕ → ℕ → Corner
-cornerAt rates stalls k = record { rate = getD rates k 0; stall = getD stalls k 0 }
 
 -- a corner of the code as the definitions have it
 abbrev pub pointOf : declared.Corner → Corner
 pointOf c = record { rate = c .rate .0; stall = c .stall .0 }
 
 -- a corner that a block has room for
-pub record Small (c : declared.Corner) : Type 0 where
-  pub rate : c .rate .0 ≤ 65_535
-  pub stall : c .stall .0 ≤ 65_535
+pub record Small (c : Corner) : Type 0 where
+  pub rate : c .rate ≤ 65_535
+  pub stall : c .stall ≤ 65_535
 
 -- up to n the rates rise and the stalls do not fall; the last corner first
 abbrev pub Ordered : Corner → List Corner → Type 0
 Ordered n [] = Unit {0}
 Ordered n (t ∷ s) = (t .rate < n .rate) × (t .stall ≤ n .stall) × Ordered t s
-
--- a slope of the code as the definitions have it
-abbrev pub fractionOf : Slope → Fraction
-fractionOf s = record { num = s .rise .0; den = s .run .0 }
-
--- two slopes that can be cross-multiplied
-pub record Crossed (a b : Slope) : Type 0 where
-  pub run : 1 ≤ a .run .0
-  pub nextRun : 1 ≤ b .run .0
-  pub product : a .rise .0 * b .run .0 < 2 ^ 32
-  pub nextProduct : b .rise .0 * a .run .0 < 2 ^ 32
-
--- the slopes of three ordered corners can be cross-multiplied
-pub crossed : (u t n : declared.Corner) (a b : Slope)
-    → Ordered (pointOf n) (pointOf t ∷ pointOf u ∷ [])
-    → Small n
-    → fractionOf a ≡ slope (pointOf u) (pointOf t)
-    → fractionOf b ≡ slope (pointOf t) (pointOf n)
-    → Crossed a b
-crossed u t n a b o small is-a is-b =
-    let rise = ap (λ (f : Fraction). f .num) is-a in
-    let run = ap (λ (f : Fraction). f .den) is-a in
-    let rise′ = ap (λ (f : Fraction). f .num) is-b in
-    let run′ = ap (λ (f : Fraction). f .den) is-b in
-    record {
-      run = omega arith;
-      nextRun = omega arith;
-      product = below (omega arith) (omega arith);
-      nextProduct = below (omega arith) (omega arith);
-    }
-  where
-    below : {x y : ℕ} → x ≤ 65_535 → y ≤ 65_535 → x * y < 2 ^ 32
-    below hx hy = lt-of-le-of-lt (mul-le-mul hx hy) (lit< tt)
 
 -- the first n corners of a block, the last one first
 unfoldable pub stackOf : List ℕ → List ℕ → ℕ → List Corner
@@ -76,13 +38,19 @@ stackOf rates stalls (suc k) = cornerAt rates stalls k ∷ stackOf rates stalls 
 abbrev pub stackIn : Block → List Corner
 stackIn b = stackOf (b .rates) (b .stalls) (b .count)
 
--- a fraction is at most another, by cross-multiplying
-abbrev pub atMost : Fraction → Fraction → Bool
-atMost f g = leb (f .num * g .den) (g .num * f .den)
-
--- the slope to t is at most the slope from t: t is no corner between u and n
+-- the slope to t is at most the slope from t, by cross-multiplying: t is no corner between u and n
 abbrev pub sags : Corner → Corner → Corner → Bool
-sags u t n = atMost (slope u t) (slope t n)
+sags u t n = leb (slope u t .num * slope t n .den) (slope t n .num * slope u t .den)
+
+-- the two products of three ordered corners fit in four bytes
+pub products-fit : (u t n : Corner)
+    → Ordered n (t ∷ u ∷ [])
+    → Small n
+    → (slope u t .num * slope t n .den < 2 ^ 32) × (slope t n .num * slope u t .den < 2 ^ 32)
+products-fit u t n o small = (below (omega arith) (omega arith), below (omega arith) (omega arith))
+  where
+    below : {x y : ℕ} → x ≤ 65_535 → y ≤ 65_535 → x * y < 2 ^ 32
+    below hx hy = lt-of-le-of-lt (mul-le-mul hx hy) (lit< tt)
 
 -- the last corner is none where n follows; the first corner stays
 unfoldable pub lastSags : Corner → List Corner → Bool
@@ -100,12 +68,6 @@ pub record Nine (n : ℕ) (ns : List ℕ) : Type 0 where
   pub most : n ≤ 9
   pub long : length ns ≡ 9
   pub blank : (k : ℕ) → n ≤ k → getD ns k 0 ≡ 0
-
--- a block of zeros has 0 everywhere
-pub zeros : (n k : ℕ) → _≡_ {A = ℕ} (getD (replicate n 0) k 0) 0
-zeros zero k = refl
-zeros (suc n) zero = refl
-zeros (suc n) (suc k) = zeros n k
 
 -- one place fewer: a place is set back to 0
 nine-less : (k : ℕ) (ns : List ℕ) → Nine (suc k) ns → Nine k (set ns k 0)
@@ -181,7 +143,7 @@ pub record Ready (n : Corner) (rs ss : List ℕ) (k : ℕ) : Type 0 where
   pub room : length (kept n (stackOf rs ss k)) < 9
 
 -- the block after the step: n on top of the corners that stay
-pub record Added (n : Corner) (b r : Block) : Type 0 where
+pub record WithCorner (n : Corner) (b r : Block) : Type 0 where
   pub rates : Nine (r .count) (r .rates)
   pub stalls : Nine (r .count) (r .stalls)
   pub stack : stackIn r ≡ n ∷ kept n (stackIn b)
@@ -247,7 +209,7 @@ pub put-on : (n : Corner) (b : Block) (rs ss : List ℕ) (k : ℕ)
     → lastSags n (stackOf rs ss k) ≡ false
     → Ready n rs ss k
     → kept n (stackOf rs ss k) ≡ kept n (stackIn b)
-    → Added n b (record { rates = set rs k (n .rate); stalls = set ss k (n .stall); count = k + 1 })
+    → WithCorner n b (record { rates = set rs k (n .rate); stalls = set ss k (n .stall); count = k + 1 })
 unfolding stackOf
 put-on n b rs ss k e h same =
     let room : k < 9 = room-left n rs ss k e h in

@@ -1,279 +1,307 @@
--- What the user asked to be certain of. Each demand is stated over the promises of `meaning`; the proofs are in `laws`.
-use mathlib.Core.Path.{_≡_}
+-- What the user asked to be certain of, in the order of the user's sentences, and document 01's sentences on the curve. Each is stated over the promises and definitions of `meaning`; the proofs are in the crates of laws.
+use mathlib.Core.Path.{_≡_, refl, sym, ap, _∙_, subst}
 use mathlib.Core.Logic.{_↔_}
 use mathlib.Core.Bool.{true}
 use mathlib.Core.List.{List, _++_}
 use Prim.Native.Nat.{ℕ, _+_, _*_, _≤_, _<_}
-use lib.ListN.{length, take}
-use Rattle.meaning.specs.Fraction.{_≤ᶠ_}
-use Rattle.meaning.specs.Plan.{Plan, Workload, sumOf, intervals, periods, budgetOf}
-use Rattle.meaning.specs.Curve.{Curve, limit, raw, EnvelopeOf, intervalStall, Concave, Over}
-use Rattle.meaning.specs.Placement.{AnsweredAt}
-use Rattle.meaning.specs.Span.{IsSpan, NoSpan, firstTerm}
+use native.Mathlib.Nat.{le-refl}
+use lib.ListN.{length, take, drop}
+use Rattle.meaning.specs.Fraction.{Fraction, Proper, whole, _≤ᶠ_, _=ᶠ_}
+use Rattle.meaning.specs.Plan.{Plan, Workload, sumOf, intervals, rows, mostSpan, budgetOf}
+use Rattle.meaning.specs.Curve.{Curve, limit, raw, EnvelopeOf, intervalStall, OnChord, ConcaveAny}
+use Rattle.meaning.specs.Placement.{Part, Parts, total}
+use Rattle.meaning.specs.Span.{StallAt, PlacedAt, IsSpan, NoSpan, Rounds, firstTerm}
 use Rattle.meaning.specs.Run.{Period, Lawful, EndsWithin}
 use Rattle.meaning.specs.Refusals.{planRefusal, coreRefusal, spanRefusal}
-use Rattle.meaning.specs.PlanFile.{PlanFile, Reading, readFile, fileOf, Bytes, RightLists, Widths}
-use Rattle.meaning.specs.Promises.{RawFigures, RawPromise, CornersFigures, CornersPromise, PlacementFigures, PlacementPromise, SpanFigures, noSpanFigures, SpanAnswer, SpanPromise, ReadFigures, noFileFigures, fileFigures, fileWritten, fileHeld, fits, Places, ReadPromise, WriteFigures, WritePromise}
-use Rattle.meaning.specs.Listing.{planLine, endLine, WorkloadText, Listing, linesFrom}
+use Rattle.meaning.specs.PlanFile.{PlanFile, Reading, readFile, fileOf, Bytes, Widths}
+use Rattle.meaning.specs.Promises.{RawPromise, CornersPromise, PlacementPromise, SpanFigures, noSpanFigures, SpanPromise, ReadFigures, noFileFigures, fileFigures, fileWritten, fileHeld, fits, Places, ReadPromise, WriteFigures, WritePromise}
+use Rattle.meaning.specs.Listing.{Listing, lineCount, LineOf, linesFrom}
 use Rattle.meaning.specs.Again.{NoMoreWork, longer, until, zerosFor}
-use Rattle.laws.specs.Raw.{raw-rises}
-use Rattle.laws.specs.Envelopes.{envelope-over, envelope-least}
-use Rattle.laws.specs.Answers.{raw-answer-exists, raw-answer-unique, corners-answer-exists, corners-answer-unique}
-use Rattle.laws.specs.Questions.{placement-answer-exists, placement-answer-unique, span-promise-unique}
-use Rattle.laws.specs.Answered.{span-promise-exists, read-answer-exists, write-answer-exists, answer-places-all, answer-rounds, answer-ends, answer-twelve}
-use Rattle.laws.specs.Refusing.{raw-refused-zeros, corners-refused-zeros, placement-refused-zeros, span-refused-zeros, read-refused-zeros, write-refused-zeros}
-use Rattle.laws.specs.PlanFiles.{longest-file, sound-file-plan, read-answer-unique, write-answer-unique}
-use Rattle.laws.specs.ReadWrites.{read-writes}
-use Rattle.laws.specs.WrittenReads.{written-reads}
-use Rattle.laws.specs.Longest.{longest-is-accepted}
-use Rattle.laws.specs.RoundTrips.{read-and-written, written-and-read}
-use Rattle.laws.specs.Listings.{listing-exists, listing-unique, listing-of-lines}
-use Rattle.laws.specs.Fronts.{first-8192}
-use Rattle.laws.specs.Outliving.{answer-given, answer-room, asked-less, asked-later}
-use Rattle.laws.specs.Longer.{asked-longer}
+use Rattle.plan_laws.specs.SoundPlan.{sound-plan, sound-core, plan-whole}
+use Rattle.plan_laws.specs.RefusedZeros.{raw-refused-zeros, corners-refused-zeros, placement-refused-zeros, span-refused-zeros, read-refused-zeros, write-refused-zeros}
+use Rattle.curve_laws.specs.RawStall.{raw-rises}
+use Rattle.curve_laws.specs.CornerStack.{envelope-exists}
+use Rattle.curve_laws.specs.EnvelopeUnique.{envelope-unique}
+use Rattle.curve_laws.specs.SegmentCount.{at-most-cores}
+use Rattle.curve_laws.specs.EnvelopeLeast.{envelope-over, envelope-on-chord, envelope-least}
+use Rattle.curve_laws.specs.CurveQuestions.{raw-answer-exists, raw-answer-unique, corners-answer-exists, corners-answer-unique}
+use Rattle.placement_laws.specs.StallUnique.{row-concave, parts-concave, parts-proper}
+use Rattle.placement_laws.specs.PartsBehind.{idle-takes, idle-stall}
+use Rattle.placement_laws.specs.PlacementQuestion.{placement-answer-exists, placement-answer-unique}
+use Rattle.span_laws.specs.StallAtW.{stall-at-same, placed-at-greatest, placed-at-exists}
+use Rattle.span_laws.specs.SpanQuestion.{span-promise-exists, span-promise-unique, seen-span, answer-places-all, answer-rounds, answer-twelve}
+use Rattle.span_laws.specs.AskedAgain.{answer-room, asked-less, asked-later}
+use Rattle.span_laws.specs.IntervalsBehind.{asked-longer}
+use Rattle.run_laws.specs.RunsEnd.{answer-ends}
+use Rattle.file_laws.specs.FileQuestions.{longest-file, read-answer-exists, read-answer-unique, write-answer-exists, write-answer-unique}
+use Rattle.file_laws.specs.LongestFile.{longest-is-accepted}
+use Rattle.file_laws.specs.FirstBytes.{first-8192}
+use Rattle.file_laws.specs.WrittenIsRead.{written-reads}
+use Rattle.file_laws.specs.RoundTrips.{read-back, file-written, written-front, file-read}
+use Rattle.listing_laws.specs.OneListing.{listing-exists, listing-unique, listing-of-lines}
 
--- exactly one answer, figures and lent place together, meets a promise
-pub record ExactlyOne {A B : Type 0} (promise : A → B → Type 0) : Type 0 where
+-- "Every plan and every file gets an answer. What is malformed gets a numbered refusal with zeros for results, every lent buffer keeps what it held": exactly one answer, figures and lent place together, meets a promise, and a refused one has zeros beside its number and the place as it was
+pub record OneAnswer {A B : Type 0} (promise : A → B → Type 0) (number : A → ℕ) (zeros : A → A) (place : B) : Type 0 where
   pub answer : A
-  pub place : B
-  pub meets : promise answer place
-  pub only : (a : A) (b : B) → promise a b → (a ≡ answer) × (b ≡ place)
+  pub after : B
+  pub meets : promise answer after
+  pub only : (a : A) (b : B) → promise a b → (a ≡ answer) × (b ≡ after)
+  pub refused : (number answer ≡ 0 → ⊥) → (answer ≡ zeros answer) × (after ≡ place)
 
--- that is so where one meets it and two that meet it are the same
-exactly-one : {A B : Type 0} (promise : A → B → Type 0)
+-- that is so where one meets it, two that meet it are the same, and a refused one has zeros and keeps the place
+one-answer : {A B : Type 0} (promise : A → B → Type 0) (number : A → ℕ) (zeros : A → A) (place : B)
     → ((a : A) × (b : B) × promise a b)
     → ((a c : A) (b d : B) → promise a b → promise c d → (a ≡ c) × (b ≡ d))
-    → ExactlyOne promise
-exactly-one promise (answer, place, meets) same =
-    record { answer = answer; place = place; meets = meets; only = λ a b h. same a answer b place h meets }
-
--- Demand 1: every plan and every file gets an answer, and only one, with one state of the lent place
-
--- raw stall at r has exactly one answer
-pub raw-stall-answered : (m perPeriod : ℕ) (budgets : List ℕ) (core r : ℕ)
-    → (a : RawFigures) × RawPromise m perPeriod budgets core r a × ((b : RawFigures) → RawPromise m perPeriod budgets core r b → b ≡ a)
-raw-stall-answered m perPeriod budgets core r =
-    let found = raw-answer-exists m perPeriod budgets core r in
-    (found .0, found .1, λ b h. raw-answer-unique m perPeriod budgets core r b (found .0) h (found .1))
-
--- corners for one interval have exactly one answer
-pub corners-answered : (m perPeriod : ℕ) (budgets : List ℕ) (core : ℕ) (place : List ℕ)
-    → ExactlyOne (CornersPromise m perPeriod budgets core place)
-corners-answered m perPeriod budgets core place =
-    exactly-one _ (corners-answer-exists m perPeriod budgets core place) (corners-answer-unique m perPeriod budgets core place)
-
--- placement and stall at a given W have exactly one answer
-pub placement-answered : (p : Plan) (core requests n : ℕ) (place : List ℕ) → ExactlyOne (PlacementPromise p core requests n place)
-placement-answered p core requests n place =
-    exactly-one _ (placement-answer-exists p core requests n place) (placement-answer-unique p core requests n place)
-
--- the span has exactly one answer
-pub span-answered : (p : Plan) (w : Workload) (place : List ℕ) → ExactlyOne (SpanPromise p w place)
-span-answered p w place = exactly-one _ (span-promise-exists p w place) (span-promise-unique p w place)
-
--- reading a plan file has exactly one answer
-pub read-answered : (file : List ℕ) (places : Places) → ExactlyOne (ReadPromise file places)
-read-answered file places = exactly-one _ (read-answer-exists file places) (read-answer-unique file places)
-
--- writing a plan file has exactly one answer
-pub write-answered : (f : PlanFile) (place : List ℕ) → ExactlyOne (WritePromise f place)
-write-answered f place = exactly-one _ (write-answer-exists f place) (write-answer-unique f place)
-
--- every file has exactly one listing
-pub listing-answered : (file : List ℕ)
-    → (text : List ℕ) × Listing file text × ((other : List ℕ) → Listing file other → other ≡ text)
-listing-answered file =
-    let found = listing-exists file in
-    (found .0, found .1, λ other h. listing-unique file other (found .0) h (found .1))
-
--- the listing of a sound file is the plan's line, the lines of all its workloads in order, and the last line
-pub listing-by-lines : (file : List ℕ) (f : PlanFile) (line : ℕ → List ℕ)
-    → readFile file ≡ Reading.sound f
-    → ((k : ℕ) → k < length (f .workloads .cores) → WorkloadText f k (line k))
-    → Listing
-    file
-    (planLine (f .plan) ++ (linesFrom 0 (length (f .workloads .cores)) line ++ endLine (length (f .workloads .cores))))
-listing-by-lines = listing-of-lines
-
--- a refused question gives its number with zeros, and the lent places keep what they held: raw stall at r
-pub raw-refused : (m perPeriod : ℕ) (budgets : List ℕ) (core r : ℕ) (a : RawFigures)
-    → RawPromise m perPeriod budgets core r a
-    → (a .refused ≡ 0 → ⊥)
-    → a ≡ record { refused = a .refused; stall = 0 }
-raw-refused = raw-refused-zeros
-
--- so does a refused question for the corners of one interval
-pub corners-refused : (m perPeriod : ℕ) (budgets : List ℕ) (core : ℕ) (place : List ℕ) (a : CornersFigures) (after : List ℕ)
-    → CornersPromise m perPeriod budgets core place a after
-    → (a .refused ≡ 0 → ⊥)
-    → (a ≡ record { refused = a .refused; count = 0 }) × (after ≡ place)
-corners-refused = corners-refused-zeros
-
--- so does a refused placement question
-pub placement-refused : (p : Plan) (core requests n : ℕ) (place : List ℕ) (a : PlacementFigures) (after : List ℕ)
-    → PlacementPromise p core requests n place a after
-    → (a .refused ≡ 0 → ⊥)
-    → (a ≡ record { refused = a .refused; stall = 0 }) × (after ≡ place)
-placement-refused = placement-refused-zeros
-
--- so does a refused span question
-pub span-refused : (p : Plan) (w : Workload) (place : List ℕ) (a : SpanFigures) (after : List ℕ)
-    → SpanPromise p w place a after
-    → (a .refused ≡ 0 → ⊥)
-    → (a ≡ noSpanFigures (a .refused)) × (after ≡ place)
-span-refused = span-refused-zeros
-
--- so does the reader, and it gives the offset too
-pub read-refused : (file : List ℕ) (places : Places) (a : ReadFigures) (after : Places)
-    → ReadPromise file places a after
-    → (a .refused ≡ 0 → ⊥)
-    → (a ≡ noFileFigures (a .refused) (a .offset)) × (after ≡ places)
-read-refused = read-refused-zeros
-
--- so does the writer
-pub write-refused : (f : PlanFile) (place : List ℕ) (a : WriteFigures) (after : List ℕ)
-    → WritePromise f place a after
-    → (a .refused ≡ 0 → ⊥)
-    → (a ≡ record { refused = a .refused; length = 0 }) × (after ≡ place)
-write-refused = write-refused-zeros
-
--- Demand 2: the span is the least number of periods that holds the work, with all requests placed there; its rounds are at most the span less the first term, and one more
-pub record SpanCertain (p : Plan) (w : Workload) (a : SpanFigures) (xs : List ℕ) : Type 0 where
-  pub least : IsSpan p w (a .span)
-  pub placement : AnsweredAt p (w .core) (w .requests) (a .span) xs (a .stall)
-  pub allPlaced : sumOf xs ≡ w .requests
-  pub rounds : a .rounds + firstTerm p w ≤ a .span + 1
-
--- that is so of every span once given
-pub span-certain : (p : Plan) (w : Workload) (room : ℕ) (a : SpanFigures) (xs : List ℕ)
-    → SpanAnswer p w room a xs
-    → a .refused ≡ 0
-    → SpanCertain p w a xs
-span-certain p w room a xs h answered =
-    let given = answer-given p w room a xs h answered .1 in
+    → ((a : A) (b : B) → promise a b → (number a ≡ 0 → ⊥) → (a ≡ zeros a) × (b ≡ place))
+    → OneAnswer promise number zeros place
+one-answer promise number zeros place (answer, after, meets) same refused =
     record {
-      least = given .isSpan;
-      placement = given .placement;
-      allPlaced = answer-places-all p w room a xs h answered;
-      rounds = answer-rounds p w room a xs h answered;
+      answer = answer;
+      after = after;
+      meets = meets;
+      only = λ a b h. same a answer b after h meets;
+      refused = refused answer after meets;
     }
 
--- "no span" exactly when no number up to the horizon will do
-pub no-span-exactly : (p : Plan) (w : Workload) (room : ℕ) (a : SpanFigures) (xs : List ℕ)
-    → spanRefusal p w room ≡ 0
-    → SpanAnswer p w room a xs
-    → (a .refused ≡ 12) ↔ NoSpan p w
-no-span-exactly p w room a xs e h = answer-twelve p w room a xs h e
+-- raw stall at r; nothing is lent
+pub raw-stall-answered : (m perPeriod : ℕ) (budgets : List ℕ) (core r : ℕ)
+    → OneAnswer {B = Unit {0}} (λ a after. RawPromise m perPeriod budgets core r a) (λ a. a .refused) (λ a. record { refused = a .refused; stall = 0 }) tt
+raw-stall-answered m perPeriod budgets core r =
+    let found = raw-answer-exists m perPeriod budgets core r in
+    one-answer _ _ _ tt (found .0, tt, found .1)
+    (λ a c b d ha hc. (raw-answer-unique m perPeriod budgets core r a c ha hc, λ i. tt))
+    (λ a b h refused. (raw-refused-zeros m perPeriod budgets core r a h refused, λ i. tt))
 
--- the envelope is nowhere below the raw stall at whole r
-pub envelope-nowhere-below : (perPeriod core : ℕ) (budgets : List ℕ) (c : Curve)
-    → EnvelopeOf perPeriod core budgets c
-    → Over (raw perPeriod budgets core) (budgetOf core budgets) c
-envelope-nowhere-below perPeriod core budgets c = envelope-over (raw perPeriod budgets core) (budgetOf core budgets) c
+-- corners for one interval
+pub corners-answered : (m perPeriod : ℕ) (budgets : List ℕ) (core : ℕ) (place : List ℕ)
+    → OneAnswer (CornersPromise m perPeriod budgets core place) (λ a. a .refused) (λ a. record { refused = a .refused; count = 0 }) place
+corners-answered m perPeriod budgets core place =
+    one-answer _ _ _ place
+    (corners-answer-exists m perPeriod budgets core place)
+    (corners-answer-unique m perPeriod budgets core place)
+    (corners-refused-zeros m perPeriod budgets core place)
 
--- and it is the least such curve: among the concave curves over 0..q with whole corners whose stalls do not fall, none that is nowhere below the raw stall gives any w periods with any x requests a smaller stall
-pub envelope-is-least : (perPeriod core : ℕ) (budgets : List ℕ) (c other : Curve)
-    → sumOf budgets ≡ perPeriod
-    → EnvelopeOf perPeriod core budgets c
-    → Concave other
-    → limit other ≡ budgetOf core budgets
-    → Over (raw perPeriod budgets core) (budgetOf core budgets) other
-    → (w x : ℕ)
-    → x ≤ w * budgetOf core budgets
-    → intervalStall c w x ≤ᶠ intervalStall other w x
-envelope-is-least perPeriod core budgets c other sums =
-    envelope-least (raw perPeriod budgets core) (budgetOf core budgets) c other (raw-rises perPeriod budgets core sums)
+-- placement and stall at a given W
+pub placement-answered : (p : Plan) (core requests n : ℕ) (place : List ℕ)
+    → OneAnswer (PlacementPromise p core requests n place) (λ a. a .refused) (λ a. record { refused = a .refused; stall = 0 }) place
+placement-answered p core requests n place =
+    one-answer _ _ _ place
+    (placement-answer-exists p core requests n place)
+    (placement-answer-unique p core requests n place)
+    (placement-refused-zeros p core requests n place)
 
--- accepted files read and write back to equal bytes
-pub read-writes-back : (file : List ℕ) (f : PlanFile) → Bytes file → readFile file ≡ Reading.sound f → fileOf f ≡ file
-read-writes-back = read-writes
+-- span
+pub span-answered : (p : Plan) (w : Workload) (place : List ℕ)
+    → OneAnswer (SpanPromise p w place) (λ a. a .refused) (λ a. noSpanFigures (a .refused)) place
+span-answered p w place =
+    one-answer _ _ _ place (span-promise-exists p w place) (span-promise-unique p w place) (span-refused-zeros p w place)
 
--- a written plan reads back the same, with its workloads
-pub written-reads-back : (f : PlanFile)
-    → planRefusal (f .plan) ≡ 0
-    → RightLists (f .workloads)
-    → Widths (f .workloads)
-    → readFile (fileOf f) ≡ Reading.sound f
-written-reads-back = written-reads
+-- read a plan file: the offset stands beside the number
+pub read-answered : (file : List ℕ) (places : Places)
+    → OneAnswer (ReadPromise file places) (λ a. a .refused) (λ a. noFileFigures (a .refused) (a .offset)) places
+read-answered file places =
+    one-answer _ _ _ places (read-answer-exists file places) (read-answer-unique file places) (read-refused-zeros file places)
 
--- a file that the reader accepts, with what it gave handed to the writer: the same bytes, with their number
+-- write a plan file
+pub write-answered : (f : PlanFile) (place : List ℕ)
+    → OneAnswer (WritePromise f place) (λ a. a .refused) (λ a. record { refused = a .refused; bytes = 0 }) place
+write-answered f place =
+    one-answer _ _ _ place (write-answer-exists f place) (write-answer-unique f place) (write-refused-zeros f place)
+
+-- every file has exactly one listing, and its lines in order make it
+pub listing-answered : (file : List ℕ)
+    → (text : List ℕ)
+    × Listing file text
+    × ((other : List ℕ) → Listing file other → other ≡ text)
+    × ((line : ℕ → List ℕ)
+    → ((n : ℕ) → n < lineCount (readFile file) → LineOf (readFile file) n (line n))
+    → linesFrom 0 (lineCount (readFile file)) line ≡ text)
+listing-answered file =
+    let found = listing-exists file in
+    let only : (other : List ℕ) → Listing file other → other ≡ found .0 = λ other h. listing-unique file other (found .0) h (found .1) in
+    (found .0, found .1, only, λ line each. only (linesFrom 0 (lineCount (readFile file)) line) (listing-of-lines file line each))
+
+-- "The span is the least number of periods that holds the work and its greatest total stall": what the caller sees is the least W up to the horizon, in its place the answered placement there with all requests placed, and the rounds of 004's sequence, at most the span less the first term, and one more
+pub record SpanCertain (p : Plan) (w : Workload) (place : List ℕ) (a : SpanFigures) (after : List ℕ) : Type 0 where
+  pub least : IsSpan p w (a .span)
+  pub placement : PlacedAt p w (a .span) (take (intervals p) after) (a .stall)
+  pub allPlaced : sumOf (take (intervals p) after) ≡ w .requests
+  pub kept : drop (intervals p) after ≡ drop (intervals p) place
+  pub rounds : Rounds p w (a .span) (a .rounds)
+  pub fewRounds : a .rounds + firstTerm p w ≤ a .span + 1
+
+-- that is so of every span once given
+pub span-certain : (p : Plan) (w : Workload) (place : List ℕ) (a : SpanFigures) (after : List ℕ)
+    → SpanPromise p w place a after
+    → a .refused ≡ 0
+    → SpanCertain p w place a after
+span-certain p w place a after h none =
+    let seen = seen-span p w place a after h none in
+    record {
+      least = seen .given .isSpan;
+      placement = seen .given .placement;
+      allPlaced = answer-places-all p w (length place) a (take (intervals p) after) (seen .answer) none;
+      kept = seen .kept;
+      rounds = seen .given .rounds;
+      fewRounds = answer-rounds p w (length place) a (take (intervals p) after) (seen .answer) none;
+    }
+
+-- "its greatest total stall": S(W) is a value, and one alone, whatever W
+pub stall-certain : (p : Plan) (w : Workload) (n : ℕ)
+    → planRefusal p ≡ 0
+    → coreRefusal p (w .core) ≡ 0
+    → (f : Fraction) × StallAt p w n f × ((g : Fraction) → StallAt p w n g → g =ᶠ f)
+stall-certain p w n plan core =
+    let sound = sound-plan p plan in
+    let found = placed-at-exists p w sound (sound-core p (w .core) core) n in
+    let f = total (found .2 .parts) (found .0) in
+    let greatest = placed-at-greatest p w sound n (found .0) (found .1) (found .2) in
+    (f, greatest, λ g h. stall-at-same p w sound n g f h greatest)
+
+-- "'no span' exactly when no number up to the horizon will do", where the question is not refused for another reason
+pub no-span-exactly : (p : Plan) (w : Workload) (place : List ℕ) (a : SpanFigures) (after : List ℕ)
+    → SpanPromise p w place a after
+    → (a .refused ≡ 12) ↔ ((spanRefusal p w (length place) ≡ 0) × NoSpan p w)
+no-span-exactly p w place a after (xs, answer, wrote) = answer-twelve p w (length place) a xs answer
+
+-- "Accepted files read and write back to equal bytes": what the reader gave, handed to the writer
 pub read-then-written : (file : List ℕ) (places : Places) (a : ReadFigures) (after : Places) (place : List ℕ) (b : WriteFigures) (out : List ℕ)
     → Bytes file
     → ReadPromise file places a after
     → a .refused ≡ 0
     → WritePromise (fileHeld a after) place b out
     → length file ≤ length place
-    → (b ≡ record { refused = 0; length = length file }) × (take (length file) out ≡ file)
-read-then-written = read-and-written
+    → (b ≡ record { refused = 0; bytes = length file }) × (take (length file) out ≡ file)
+read-then-written file places a after place b out bytes h none again enough =
+    let f = fileHeld a after in
+    let back = read-back file places a after bytes h none in
+    let room : length (fileOf f) ≤ length place = subst (λ (s : List ℕ). length s ≤ length place) (sym (back .bytes)) enough in
+    subst
+    (λ (s : List ℕ). (b ≡ record { refused = 0; bytes = length s }) × (take (length s) out ≡ s))
+    (back .bytes)
+    (file-written f place b out (back .plan) (back .lists) room again)
 
--- a plan with workloads that the writer accepts, with what it wrote handed to the reader: the same plan and workloads, where they fit the places
+-- "a written plan reads back the same": what the writer wrote, handed to the reader, where it fits the places
 pub written-then-read : (f : PlanFile) (place : List ℕ) (a : WriteFigures) (after : List ℕ) (places : Places) (b : ReadFigures) (out : Places)
     → WritePromise f place a after
     → a .refused ≡ 0
     → Widths (f .workloads)
-    → ReadPromise (take (a .length) after) places b out
+    → ReadPromise (take (a .bytes) after) places b out
     → fits f places ≡ true
     → (b ≡ fileFigures f) × (out ≡ fileWritten f places)
-written-then-read = written-and-read
+written-then-read f place a after places b out h none widths again room =
+    let front = written-front f place a after h none in
+    let reads : readFile (take (a .bytes) after) ≡ Reading.sound f =
+    subst (λ (s : List ℕ). readFile s ≡ Reading.sound f) (front .bytes) (written-reads f (front .plan) (front .lists) widths) in
+    file-read (take (a .bytes) after) f places b out reads room again
 
--- the plan of an accepted file is not refused by the other questions, and its lists of workload values are right
-pub accepted-file-sound : (file : List ℕ) (f : PlanFile)
-    → readFile file ≡ Reading.sound f
-    → (planRefusal (f .plan) ≡ 0) × RightLists (f .workloads)
-accepted-file-sound = sound-file-plan
+-- "The longest accepted file has 5,642 bytes, so `spans` reads 8,192 bytes at most and answers the same"
+pub longest-accepted :
+    ((file : List ℕ) (f : PlanFile) → readFile file ≡ Reading.sound f → length file ≤ 5_642)
+    × ((file : List ℕ) × (f : PlanFile) × (readFile file ≡ Reading.sound f) × (length file ≡ 5_642))
+    × ((file : List ℕ) → readFile (take 8_192 file) ≡ readFile file)
+longest-accepted = (longest-file, longest-is-accepted, first-8192)
 
--- no accepted file has more than 5,642 bytes
-pub longest-accepted : (file : List ℕ) (f : PlanFile) → readFile file ≡ Reading.sound f → length file ≤ 5_642
-longest-accepted = longest-file
-
--- and an accepted file has as many: one of 64 intervals with a budget for each of 8 cores, and 256 workloads
-pub longest-reached : (file : List ℕ) × (f : PlanFile) × (readFile file ≡ Reading.sound f) × (length file ≡ 5_642)
-longest-reached = longest-is-accepted
-
--- reading the first 8,192 bytes of a file answers the same as reading all of it
-pub first-8192-same : (file : List ℕ) → readFile (take 8_192 file) ≡ readFile file
-first-8192-same = first-8192
-
--- Demand 3: every lawful run with no more work ends within a span once given
-pub runs-end : (p : Plan) (w : Workload) (room : ℕ) (a : SpanFigures) (xs : List ℕ) (run : List Period)
-    → SpanAnswer p w room a xs
+-- "every lawful run with no more work ends within it"
+pub runs-end : (p : Plan) (w : Workload) (place : List ℕ) (a : SpanFigures) (after : List ℕ) (run : List Period)
+    → SpanPromise p w place a after
     → a .refused ≡ 0
     → Lawful p w run
     → EndsWithin p w run (a .span)
-runs-end p w room a xs run h = answer-ends p w room a xs h run
+runs-end p w place a after run (xs, answer, wrote) = answer-ends p w (length place) a xs run answer
 
--- asked again with less work, with any room of at least the intervals, a span is given and it is no larger
-pub less-work-no-larger : (p : Plan) (w v : Workload) (room room' : ℕ) (a b : SpanFigures) (xs ys : List ℕ)
-    → SpanAnswer p w room a xs
+-- "asked again with less work the span is no larger": up to any horizon within the plan that is not before the span, a span is given, whatever place with room is lent
+pub less-work-no-larger : (p : Plan) (w v : Workload) (place place' : List ℕ) (a b : SpanFigures) (after after' : List ℕ)
+    → SpanPromise p w place a after
     → a .refused ≡ 0
     → NoMoreWork v w
     → 1 ≤ v .computing
-    → v .horizon ≤ periods p
-    → intervals p ≤ room'
-    → SpanAnswer p v room' b ys
+    → a .span ≤ v .horizon
+    → v .horizon ≤ mostSpan p
+    → intervals p ≤ length place'
+    → SpanPromise p v place' b after'
     → (b .refused ≡ 0) × (b .span ≤ a .span)
-less-work-no-larger p w v room room' a b xs ys first none less some inPlan lent again =
-    asked-less p w v room' a b xs ys (answer-room p w room room' a xs first none lent) none less some inPlan again
+less-work-no-larger p w v place place' a b after after' (xs, first, wrote) none less some inside inPlan lent (ys, again, wrote') =
+    asked-less p w v (length place') a b xs ys (answer-room p w (length place) (length place') a xs first none lent) none less some inside inPlan again
 
--- a later horizon, with any room of at least the intervals, leaves it the same: span, stall, rounds and placement
-pub later-horizon-same : (p : Plan) (w : Workload) (h room room' : ℕ) (a b : SpanFigures) (xs ys : List ℕ)
-    → SpanAnswer p w room a xs
+-- "a later horizon .. leave it the same": span, stall, rounds and placement
+pub later-horizon-same : (p : Plan) (w : Workload) (h : ℕ) (place place' : List ℕ) (a b : SpanFigures) (after after' : List ℕ)
+    → SpanPromise p w place a after
     → a .refused ≡ 0
     → w .horizon ≤ h
-    → h ≤ periods p
-    → intervals p ≤ room'
-    → SpanAnswer p (until w h) room' b ys
-    → (b ≡ a) × (ys ≡ xs)
-later-horizon-same p w h room room' a b xs ys first none later inPlan lent again =
-    asked-later p w h room' a b xs ys (answer-room p w room room' a xs first none lent) none later inPlan again
+    → h ≤ mostSpan p
+    → intervals p ≤ length place'
+    → SpanPromise p (until w h) place' b after'
+    → (b ≡ a) × (take (intervals p) after' ≡ take (intervals p) after)
+later-horizon-same p w h place place' a b after after' first none later inPlan lent again =
+    let xs = take (intervals p) after in
+    let answer = answer-room p w (length place) (length place') a xs (seen-span p w place a after first none .answer) none lent in
+    let same = asked-later p w h (length place') a b xs (again .0) answer none later inPlan (again .1) .0 in
+    let seen = seen-span p (until w h) place' b after' again (ap (λ (f : SpanFigures). f .refused) same ∙ none) in
+    (same, asked-later p w h (length place') a b xs (take (intervals p) after') answer none later inPlan (seen .answer) .1)
 
--- intervals added behind leave it the same, the placement followed by zeros
-pub intervals-behind-same : (p : Plan) (ls bs : List ℕ) (w : Workload) (room room' : ℕ) (a b : SpanFigures) (xs ys : List ℕ)
-    → SpanAnswer p w room a xs
+-- "intervals added behind leave it the same": the placement is followed by zeros
+pub intervals-behind-same : (p : Plan) (ls bs : List ℕ) (w : Workload) (place place' : List ℕ) (a b : SpanFigures) (after after' : List ℕ)
+    → SpanPromise p w place a after
     → a .refused ≡ 0
     → planRefusal (longer p ls bs) ≡ 0
     → coreRefusal (longer p ls bs) (w .core) ≡ 0
-    → intervals (longer p ls bs) ≤ room'
-    → SpanAnswer (longer p ls bs) w room' b ys
-    → (b ≡ a) × (ys ≡ xs ++ zerosFor ls)
-intervals-behind-same = asked-longer
+    → intervals (longer p ls bs) ≤ length place'
+    → SpanPromise (longer p ls bs) w place' b after'
+    → (b ≡ a) × (take (intervals (longer p ls bs)) after' ≡ take (intervals p) after ++ zerosFor ls)
+intervals-behind-same p ls bs w place place' a b after after' first none plan core lent again =
+    let xs = take (intervals p) after in
+    let answer = seen-span p w place a after first none .answer in
+    let same = asked-longer p ls bs w (length place) (length place') a b xs (again .0) answer none plan core lent (again .1) .0 in
+    let seen = seen-span (longer p ls bs) w place' b after' again (ap (λ (f : SpanFigures). f .refused) same ∙ none) in
+    (same, asked-longer p ls bs w (length place) (length place') a b xs _ answer none plan core lent (seen .answer) .1)
+
+-- document 01 on the envelope of an interval whose budgets sum to Q: its corners exist and are the only ones, it has at most m segments, it is nowhere below the raw stall at whole r, each value of it lies on the chord of two raw stalls, and no concave curve of any kind that is nowhere below the raw stall is anywhere below it
+pub record EnvelopeCertain (perPeriod core : ℕ) (budgets : List ℕ) : Type 0 where
+  pub curve : Curve
+  pub envelope : EnvelopeOf perPeriod core budgets curve
+  pub only : (c : Curve) → EnvelopeOf perPeriod core budgets c → c ≡ curve
+  pub fewSegments : length (curve .rest) ≤ length budgets
+  pub nowhereBelow : (r : ℕ) → r ≤ budgetOf core budgets → whole (raw perPeriod budgets core r) ≤ᶠ intervalStall curve 1 r
+  pub onChords : 1 ≤ budgetOf core budgets
+      → (w x : ℕ)
+      → x ≤ w * budgetOf core budgets
+      → OnChord (raw perPeriod budgets core) (budgetOf core budgets) w x (intervalStall curve w x)
+  pub noPeriods : (x : ℕ) → x ≤ 0 * budgetOf core budgets → (x ≡ 0) × (intervalStall curve 0 x =ᶠ whole 0)
+  pub least : (value : ℕ → ℕ → Fraction)
+      → ConcaveAny (budgetOf core budgets) value
+      → ((r : ℕ) → r ≤ budgetOf core budgets → whole (raw perPeriod budgets core r) ≤ᶠ value 1 r)
+      → (w x : ℕ)
+      → x ≤ w * budgetOf core budgets
+      → intervalStall curve w x ≤ᶠ value w x
+
+-- that is so of every interval of a plan that is not refused
+pub envelope-certain : (perPeriod core : ℕ) (budgets : List ℕ) → sumOf budgets ≡ perPeriod → EnvelopeCertain perPeriod core budgets
+envelope-certain perPeriod core budgets sums =
+    let q = budgetOf core budgets in
+    let rawAt = raw perPeriod budgets core in
+    let rises = raw-rises perPeriod budgets core sums in
+    let found = envelope-exists rawAt q rises in
+    record {
+      curve = found .0;
+      envelope = found .1;
+      only = λ c h. envelope-unique rawAt q c (found .0) rises h (found .1);
+      fewSegments = at-most-cores perPeriod budgets core q (found .0) sums (le-refl q) (found .1);
+      nowhereBelow = envelope-over rawAt q (found .0) (found .1);
+      onChords = envelope-on-chord rawAt q (found .0) rises (found .1);
+      noPeriods =
+          λ x takes.
+          let idle : Part = record { share = 0; curve = found .0 } in
+          let fits : x ≤ 0 * limit (found .0) = subst (λ (n : ℕ). x ≤ 0 * n) (sym (found .1 .ends)) takes in
+          (idle-takes idle x refl fits, idle-stall idle x refl (row-concave perPeriod core budgets (found .0) sums (found .1)) fits);
+      least = λ value. envelope-least rawAt q (found .0) value rises (found .1);
+    }
+
+-- "a fraction is a pair of them with a divisor of at least 1": so is every total of a plan's parts, whatever the placement
+pub total-certain : (p : Plan) (core : ℕ) (ws : List ℕ) (ps : List Part) (xs : List ℕ)
+    → planRefusal p ≡ 0
+    → Parts p core ws ps
+    → Proper (total ps xs)
+total-certain p core ws ps xs sound parts =
+    let plan = sound-plan p sound in
+    parts-proper ps xs (parts-concave (p .perPeriod) core ws (rows p) ps (plan-whole p plan) parts)

@@ -3,3 +3,4 @@ pub mod Table
 pub mod Example
 pub mod Demands
 pub mod RunsByNumber
+pub mod Returned

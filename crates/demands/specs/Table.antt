@@ -10,13 +10,13 @@ use Rattle.meaning.specs.Placement.{shares, AnsweredAt}
 use Rattle.meaning.specs.Span.{firstTerm, NextTerm}
 use Rattle.meaning.specs.Refusals.{intervalsRefusal, planRefusal, withoutBudget, coreRefusal, placementRefusal, spanRefusal}
 use Rattle.meaning.specs.PlanFile.{tabulate}
-use Rattle.meaning.specs.Promises.{SpanFigures, noSpanFigures, SpanAnswer}
-use Rattle.laws.specs.Indexed.{listFrom}
-use Rattle.laws.specs.Filling.{walk, fill}
-use Rattle.laws.specs.Merging.{orderTo, merged, weave, picksFrom}
-use Rattle.laws.specs.Spanning.{sought, oneMore}
-use Rattle.laws.specs.Claims.{covered, cornersRight, envelopeRight, curvesRight, envelope-checked, claim-answer, claim-placement}
-use Rattle.laws.specs.ClaimedTerms.{claim-next}
+use Rattle.meaning.specs.Promises.{SpanFigures, noSpanFigures, SpanAnswered}
+use Rattle.number_laws.specs.Lists.{listFrom}
+use Rattle.placement_laws.specs.Filling.{walk, fill}
+use Rattle.placement_laws.specs.OrderMerged.{orderTo, merged, weave, picksFrom}
+use Rattle.span_laws.specs.SearchFinds.{sought, oneMore}
+use Rattle.span_laws.specs.WorkedAnswers.{covered, cornersRight, envelopeRight, curvesRight, envelope-checked, claim-answer, claim-placement}
+use Rattle.span_laws.specs.WorkedAnswers.{claim-next}
 use Rattle.demands.specs.Worked.{examplePlan}
 
 infixr 10 _also_
@@ -124,7 +124,7 @@ RowHolds (curveRow core raws corners) =
     × (c : Curve)
     × EnvelopeOf 16 core budgets c
     × (rates c ≡ corners)
-RowHolds (spanRow p w a xs) = SpanAnswer p w (intervals p) a xs
+RowHolds (spanRow p w a xs) = SpanAnswered p w (intervals p) a xs
 RowHolds (termsRow p w terms) = Terms p w terms
 RowHolds (placementRow p core requests n stall xs) = AnsweredAt p core requests n xs stall
 

@@ -49,7 +49,7 @@ exampleContents =
       plan = examplePlan;
       workloads =
           record {
-            cores = 3 ∷ 3 ∷ [];
+            analysed = 3 ∷ 3 ∷ [];
             computing = 10 ∷ 10 ∷ [];
             requests = 10 ∷ 10 ∷ [];
             horizons = 5 ∷ 3 ∷ [];

@@ -5,12 +5,13 @@ use Prim.Native.Nat.{ℕ, zero, suc, _≤_, _<_}
 use native.Mathlib.Omega.{arith}
 use lib.Dec.{eqb·suc-zero}
 use borrow.Author.Tests.{le-leb, lt-leb}
-use Rattle.units.specs.Units.{periodsOf, perPeriodOf}
+use Rattle.units.specs.Units.{slotsOf, periodsOf, requestsOf, perPeriodOf}
 use Rattle.units.specs.declared.MadePeriods.{MadePeriods}
 use Rattle.units.specs.declared.MadeSlots.{MadeSlots}
-use Rattle.meaning.specs.Plan.{mostPerPeriod, mostPeriods}
+use Rattle.units.specs.declared.MadeRequests.{MadeRequests}
+use Rattle.meaning.specs.Plan.{mostPerPeriod, mostPeriods, mostWork}
 use Rattle.meaning.specs.Refusals.{perPeriodRefusal}
-use Rattle.laws.specs.Order.{le-or-lt}
+use Rattle.number_laws.specs.Order.{le-or-lt}
 
 -- n periods that were made, or were not
 abbrev pub PeriodsMade : ℕ → MadePeriods → Type 0
@@ -42,3 +43,29 @@ per-period-made (suc k) = ⊎-elim within beyond (le-or-lt (suc k) mostPerPeriod
 
     beyond : mostPerPeriod < suc k → PerPeriodMade (suc k) (perPeriodOf (suc k))
     beyond h = simp (eqb·suc-zero k, le-leb 1 (suc k) (omega arith), lt-leb (suc k) mostPerPeriod h)
+
+-- n slots that were made, or were not
+abbrev pub SlotsMade : ℕ → MadeSlots → Type 0
+SlotsMade n (MadeSlots.Within s) = (n ≤ mostWork) × (s .0 ≡ n)
+SlotsMade n MadeSlots.Outside = mostWork < n
+
+-- the maker of slots goes by their limit
+pub slots-made : (n : ℕ) → SlotsMade n (slotsOf n)
+slots-made n =
+    ⊎-elim
+    (λ within. rw (le-leb n mostWork within) (within, refl))
+    (λ beyond. rw (lt-leb n mostWork beyond) beyond)
+    (le-or-lt n mostWork)
+
+-- n requests that were made, or were not
+abbrev pub RequestsMade : ℕ → MadeRequests → Type 0
+RequestsMade n (MadeRequests.Within r) = n ≤ mostWork
+RequestsMade n MadeRequests.Outside = mostWork < n
+
+-- the maker of requests goes by their limit
+pub requests-made : (n : ℕ) → RequestsMade n (requestsOf n)
+requests-made n =
+    ⊎-elim
+    (λ within. rw (le-leb n mostWork within) within)
+    (λ beyond. rw (lt-leb n mostWork beyond) beyond)
+    (le-or-lt n mostWork)

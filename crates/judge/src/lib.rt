@@ -1,21 +1,18 @@
 // The plan and the core of a question, judged: refusals 1 to 7 in document 01's order.
 ghost use mathlib.Core.Path.{_≡_};
-ghost use Prim.Native.Nat.{_+_, _*_, _≤_};
+ghost use Prim.Native.Nat.{_*_, _≤_};
 ghost use lib.ListN.{length};
-ghost use Rattle.judge.specs.Judged.{Judged, planOf, PlanJudged, CoreJudged};
-ghost use Rattle.meaning.specs.Plan.{sumOf, rowsOf, mostCores};
-ghost use Rattle.meaning.specs.Refusals.{outside, intervalRefusal, intervalsRefusal, withoutBudget};
+ghost use Rattle.units.specs.Given.{planOf};
+ghost use Rattle.judge.specs.Judged.{Judged, boundsRefusal, IntervalJudged, PlanJudged, CoreJudged};
+ghost use Rattle.meaning.specs.Plan.{sumOf, rows, mostCores};
+ghost use Rattle.meaning.specs.Refusals.{outside, intervalsRefusal, withoutBudget};
+use units::Head;
 use units::MadePeriods;
 use units::MadeSlots;
 use units::Periods;
 use units::Refusal;
 use units::Slots;
-
-// Cores: 1 to 8.
-const MOST_CORES: usize = 8;
-
-// Intervals: 1 to 64.
-const MOST_INTERVALS: usize = 64;
+use units::wide;
 
 // What a plan is found to be: sound, with all its periods together, or refused.
 pub enum Judgement {
@@ -33,13 +30,6 @@ fn outside(last: usize, number: usize) -> bool
     last < number
 }
 
-// A budget, as wide as a sum of budgets.
-fn wide(budget: u16) -> u32
-    ensures { λ r. ⌜ (r ≡ budget) × (r ≤ 65_535) ⌝ }
-{
-    budget as u32
-}
-
 // The sum of an interval's budgets.
 fn sum(budgets: &[u16]) -> Slots
     requires { ⌜ length (now budgets) ≤ mostCores ⌝ }
@@ -54,10 +44,25 @@ fn sum(budgets: &[u16]) -> Slots
     Slots(total)
 }
 
-// One interval after so many periods, 4 before 5; where it is sound, the periods with it.
-fn interval(each: Slots, passed: Periods, periods: Periods, budgets: &[u16]) -> Judgement
-    requires { ⌜ length (now budgets) ≤ mostCores ⌝ }
-    ensures { λ r. ⌜ Judged (intervalRefusal (each .0) (passed .0) (periods .0) (now (budgets .entry))) (passed .0 + periods .0) r ⌝ }
+// A head for so many intervals: 1, 2, then 3; where it is sound, there is no period yet.
+pub fn bounds(head: Head, intervals: usize) -> Judgement
+    ensures { λ r. ⌜ Judged (boundsRefusal (head .cores) (head .«per_period» .0) intervals) 0 r ⌝ }
+{
+    if outside(Head::MOST_CORES as usize, head.cores as usize) {
+        return Judgement::Refused(Refusal::CoresOutside);
+    }
+    let MadeSlots::Within(_) = Slots::checked_per_period(head.per_period.0 as u64) else {
+        return Judgement::Refused(Refusal::PerPeriodOutside);
+    };
+    if outside(Head::MOST_INTERVALS as usize, intervals) {
+        return Judgement::Refused(Refusal::IntervalsOrBudgetsOutside);
+    }
+    Judgement::Sound(Periods(0))
+}
+
+// One interval whose budgets have this sum, after so many periods, 4 before 5; where it is sound, the periods with it.
+pub fn interval(head: Head, passed: Periods, periods: Periods, sum: Slots) -> Judgement
+    ensures { λ r. ⌜ IntervalJudged (head .«per_period» .0) (passed .0) (periods .0) (sum .0) r ⌝ }
 {
     if periods.0 == 0 {
         return Judgement::Refused(Refusal::PeriodsOutside);
@@ -65,25 +70,26 @@ fn interval(each: Slots, passed: Periods, periods: Periods, budgets: &[u16]) -> 
     let MadePeriods::Within(total) = Periods::checked(passed.0 as u64 + periods.0 as u64) else {
         return Judgement::Refused(Refusal::PeriodsOutside);
     };
-    if sum(budgets).0 == each.0 {
+    if sum.0 == head.per_period.0 {
         Judgement::Sound(total)
     } else {
-        Judgement::Refused(Refusal::BudgetsNotWhole)
+        Judgement::Refused(Refusal::SumNotPerPeriod)
     }
 }
 
 // The intervals in order, each 4 before 5.
-fn intervals(cores: u8, each: Slots, lengths: &[u16], budgets: &[u16]) -> Judgement
-    requires { ⌜ (cores ≤ mostCores) × (length (now budgets) ≡ length (now lengths) * cores) ⌝ }
-    ensures { λ r. ⌜ Judged (intervalsRefusal (each .0) 0 (now (lengths .entry)) (rowsOf cores (now (lengths .entry)) (now (budgets .entry)))) (sumOf (now (lengths .entry))) r ⌝ }
+fn intervals(head: Head, lengths: &[u16], budgets: &[u16]) -> Judgement
+    requires { ⌜ (head .cores ≤ mostCores) × (length (now budgets) ≡ length (now lengths) * head .cores) ⌝ }
+    ensures { λ r. ⌜ Judged (intervalsRefusal (head .«per_period» .0) 0 (now (lengths .entry)) (rows (planOf head (now (lengths .entry)) (now (budgets .entry))))) (sumOf (now (lengths .entry))) r ⌝ }
 {
-    let m = cores as usize;
+    let m = head.cores as usize;
     let mut total = Periods(0);
     let mut i = 0;
     while i < lengths.len() {
         let start = i * m;
         let end = start + m;
-        match interval(each, total, Periods(lengths[i]), &budgets[start..end]) {
+        let whole = sum(&budgets[start..end]);
+        match interval(head, total, Periods(lengths[i]), whole) {
             Judgement::Sound(t) => total = t,
             Judgement::Refused(f) => return Judgement::Refused(f),
         }
@@ -93,30 +99,25 @@ fn intervals(cores: u8, each: Slots, lengths: &[u16], budgets: &[u16]) -> Judgem
 }
 
 // A plan judged by itself: 1, 2, 3, then per interval in order 4 before 5.
-pub fn plan(cores: u8, each: Slots, lengths: &[u16], budgets: &[u16]) -> Judgement
-    ensures { λ r. ⌜ PlanJudged (planOf cores (each .0) (now (lengths .entry)) (now (budgets .entry))) r ⌝ }
+pub fn plan(head: Head, lengths: &[u16], budgets: &[u16]) -> Judgement
+    ensures { λ r. ⌜ PlanJudged (planOf head (now (lengths .entry)) (now (budgets .entry))) r ⌝ }
 {
-    if outside(MOST_CORES, cores as usize) {
-        return Judgement::Refused(Refusal::CoresOutside);
-    }
-    let MadeSlots::Within(_) = Slots::checked_per_period(each.0 as u64) else {
-        return Judgement::Refused(Refusal::SlotsPerPeriodOutside);
+    let found = bounds(head, lengths.len());
+    let Judgement::Sound(_) = found else {
+        return found;
     };
-    if outside(MOST_INTERVALS, lengths.len()) {
-        return Judgement::Refused(Refusal::IntervalsOutside);
+    if budgets.len() != lengths.len() * head.cores as usize {
+        return Judgement::Refused(Refusal::IntervalsOrBudgetsOutside);
     }
-    if budgets.len() != lengths.len() * cores as usize {
-        return Judgement::Refused(Refusal::IntervalsOutside);
-    }
-    intervals(cores, each, lengths, budgets)
+    intervals(head, lengths, budgets)
 }
 
 // Whether the core's budget is 0 in some interval.
-fn without_budget(cores: u8, lengths: &[u16], budgets: &[u16], core: u8) -> bool
-    requires { ⌜ (length (now budgets) ≡ length (now lengths) * cores) × (1 ≤ core) × (core ≤ cores) ⌝ }
-    ensures { λ r. ⌜ r ≡ withoutBudget core (rowsOf cores (now (lengths .entry)) (now (budgets .entry))) ⌝ }
+fn without_budget(head: Head, lengths: &[u16], budgets: &[u16], core: u8) -> bool
+    requires { ⌜ (length (now budgets) ≡ length (now lengths) * head .cores) × (1 ≤ core) × (core ≤ head .cores) ⌝ }
+    ensures { λ r. ⌜ r ≡ withoutBudget core (rows (planOf head (now (lengths .entry)) (now (budgets .entry)))) ⌝ }
 {
-    let m = cores as usize;
+    let m = head.cores as usize;
     let count = lengths.len();
     let at = core as usize - 1;
     let mut i = 0;
@@ -130,23 +131,17 @@ fn without_budget(cores: u8, lengths: &[u16], budgets: &[u16], core: u8) -> bool
 }
 
 // A plan and the core under analysis: 1 to 5, then 6, then 7.
-pub fn plan_and_core(
-    cores: u8,
-    each: Slots,
-    lengths: &[u16],
-    budgets: &[u16],
-    core: u8,
-) -> Judgement
-    ensures { λ r. ⌜ CoreJudged (planOf cores (each .0) (now (lengths .entry)) (now (budgets .entry))) core r ⌝ }
+pub fn plan_and_core(head: Head, lengths: &[u16], budgets: &[u16], core: u8) -> Judgement
+    ensures { λ r. ⌜ CoreJudged (planOf head (now (lengths .entry)) (now (budgets .entry))) core r ⌝ }
 {
-    let found = plan(cores, each, lengths, budgets);
+    let found = plan(head, lengths, budgets);
     let Judgement::Sound(total) = found else {
         return found;
     };
-    if outside(cores as usize, core as usize) {
+    if outside(head.cores as usize, core as usize) {
         return Judgement::Refused(Refusal::CoreOutside);
     }
-    if without_budget(cores, lengths, budgets, core) {
+    if without_budget(head, lengths, budgets, core) {
         return Judgement::Refused(Refusal::NoBudget);
     }
     Judgement::Sound(total)

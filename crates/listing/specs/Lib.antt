@@ -1,3 +1,2 @@
 pub mod Promise
-pub mod Put
-pub mod Number
+pub mod Finished

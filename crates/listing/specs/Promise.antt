@@ -1,14 +1,14 @@
 -- What a line promises: its text from the front of the lent place with the rest kept, or no room with the place kept.
-use mathlib.Core.Path.{_≡_, refl, sym, ap, _∙_}
+use mathlib.Core.Path.{_≡_, refl, ap, _∙_}
 use mathlib.Core.Bool.{Bool, true, false, _&&_}
-use mathlib.Core.List.{List, []}
+use mathlib.Core.List.{List, [], _∷_, _++_}
 use Prim.Native.Nat.{ℕ, _≤_}
 use native.Mathlib.Omega.{arith}
 use lib.ListN.{length, drop, length-append, length-drop}
 use lib.Dec.{leb}
 use Rattle.meaning.specs.Plan.{Plan, mostIntervals}
 use Rattle.meaning.specs.Promises.{written}
-use Rattle.meaning.specs.Listing.{planLine, spanLine}
+use Rattle.meaning.specs.Listing.{decimal, spaced, wordSpan, wordStall, wordRounds, planLine, spanLine}
 use Rattle.listing.specs.declared.Line.{Line}
 
 -- room for the longest line: 64 requests of up to 10 digits, each after a space, and fewer than 100 bytes besides
@@ -23,14 +23,6 @@ roomFor numbers place = leb room place && leb numbers mostIntervals
 abbrev pub LinePromise : List ℕ → Bool → List ℕ → Line → List ℕ → Type 0
 LinePromise text true before answer after = (answer ≡ Line.Length (length text)) × (after ≡ written text before)
 LinePromise text false before answer after = (answer ≡ Line.NoRoom) × (after ≡ before)
-
--- two answers that meet the promise are the same, and so are the places
-pub line-same : (text : List ℕ) (fits : Bool) (before : List ℕ) {a b : Line} {after later : List ℕ}
-    → LinePromise text fits before a after
-    → LinePromise text fits before b later
-    → (a ≡ b) × (after ≡ later)
-line-same text true before p q = (p .0 ∙ sym (q .0), p .1 ∙ sym (q .1))
-line-same text false before p q = (p .0 ∙ sym (q .0), p .1 ∙ sym (q .1))
 
 -- the length that is answered is within the place, which keeps its own length
 pub line-within : (text : List ℕ) (fits : Bool) (before after : List ℕ) {n : ℕ}
@@ -52,6 +44,17 @@ planText m perPeriod lengths =
 pub plan-text : (p : Plan) → planText (p .cores) (p .perPeriod) (p .lengths) ≡ planLine p
 unfolding planLine
 plan-text p = refl
+
+-- what the line of a span has before its requests: the workload's number, and the span, stall and rounds, each after its word
+abbrev pub foundText : ℕ → ℕ → ℕ → ℕ → List ℕ
+foundText number span stall rounds =
+    decimal number
+    ++ wordSpan
+    ++ spaced (span ∷ [])
+    ++ wordStall
+    ++ spaced (stall ∷ [])
+    ++ wordRounds
+    ++ spaced (rounds ∷ [])
 
 -- the line of a span with its stall and rounds
 abbrev pub spanText : ℕ → ℕ → ℕ → ℕ → List ℕ → List ℕ

@@ -5,12 +5,11 @@ use Prim.Native.Nat.{ℕ, _≤_}
 use lib.ListN.{length, replicate}
 use Rattle.meaning.specs.Plan.{Plan, Workload}
 
--- v has no more work than w: the same core, no more computing and no more requests; its horizon is no earlier
+-- v has no more work than w: the same core, no more computing and no more requests
 pub record NoMoreWork (v w : Workload) : Type 0 where
   pub core : v .core ≡ w .core
   pub computing : v .computing ≤ w .computing
   pub requests : v .requests ≤ w .requests
-  pub horizon : w .horizon ≤ v .horizon
 
 -- the same workload up to another horizon
 abbrev pub until : Workload → ℕ → Workload

@@ -5,7 +5,7 @@ use mathlib.Core.List.{List, [], _∷_, _++_, map}
 use Prim.Native.Nat.{ℕ, zero, suc, _+_, _-_, _*_, _≤_, _<_, min}
 use lib.ListN.{length, replicate}
 use lib.Dec.{ltb, leb}
-use Rattle.meaning.specs.Fraction.{Fraction, whole, _≤ᶠ_, _<ᶠ_}
+use Rattle.meaning.specs.Fraction.{Fraction, Proper, whole, _≤ᶠ_, _<ᶠ_, _=ᶠ_, _+ᶠ_, timesOf, dividedBy}
 use Rattle.meaning.specs.Plan.{budgetOf}
 
 -- the budgets of the other cores; the core is counted from 0 here
@@ -116,8 +116,8 @@ abbrev pub intervalStall : Curve → ℕ → ℕ → Fraction
 intervalStall c w x = stallFrom (c .first) (c .rest) w x
 
 -- a curve is nowhere below the raw stall at whole rates
-abbrev pub Over : (ℕ → ℕ) → ℕ → Curve → Type 0
-Over stallAt q c = (r : ℕ) → r ≤ q → whole (stallAt r) ≤ᶠ intervalStall c 1 r
+abbrev pub NowhereBelow : (ℕ → ℕ) → ℕ → Curve → Type 0
+NowhereBelow stallAt q c = (r : ℕ) → r ≤ q → whole (stallAt r) ≤ᶠ intervalStall c 1 r
 
 -- the stalls of the corners do not fall
 abbrev pub Climbing : Corner → List Corner → Type 0
@@ -130,3 +130,23 @@ pub record Concave (c : Curve) : Type 0 where
   pub rising : Rising (c .first) (c .rest)
   pub climbing : Climbing (c .first) (c .rest)
   pub falling : Falling (c .first) (c .rest)
+
+-- on the chord from rate a to rate b, where a curve of any kind has the values f and g there, for w periods and x requests: ((w·b - x)·f + (x - w·a)·g)/(b - a)
+abbrev pub onChord : ℕ → ℕ → Fraction → Fraction → ℕ → ℕ → Fraction
+onChord a b f g w x = dividedBy (timesOf (w * b - x) f +ᶠ timesOf (x - w * a) g) (b - a)
+
+-- f, the stall of w periods with x requests, lies on the chord of two raw stalls at rates up to q
+pub record OnChord (stallAt : ℕ → ℕ) (q w x : ℕ) (f : Fraction) : Type 0 where
+  pub from : ℕ
+  pub to : ℕ
+  pub rising : from < to
+  pub inside : to ≤ q
+  pub above : w * from ≤ x
+  pub below : x ≤ w * to
+  pub value : f =ᶠ onChord from to (whole (stallAt from)) (whole (stallAt to)) w x
+
+-- a concave curve of any kind over 0..q, given for every w and x by w times its value at x/w: no chord of it is above it
+pub record ConcaveAny (q : ℕ) (value : ℕ → ℕ → Fraction) : Type 0 where
+  pub proper : (w x : ℕ) → Proper (value w x)
+  pub points : (w r : ℕ) → r ≤ q → timesOf w (value 1 r) ≤ᶠ value w (w * r)
+  pub chords : (w a b x : ℕ) → a < b → b ≤ q → w * a ≤ x → x ≤ w * b → onChord a b (value 1 a) (value 1 b) w x ≤ᶠ value w x

@@ -33,9 +33,13 @@ _=ᶠ_ f g = f .num * g .den ≡ g .num * f .den
 abbrev pub _+ᶠ_ : Fraction → Fraction → Fraction
 _+ᶠ_ f g = record { num = f .num * g .den + g .num * f .den; den = f .den * g .den }
 
+-- n times the fraction
+abbrev pub timesOf : ℕ → Fraction → Fraction
+timesOf n f = record { num = n * f .num; den = f .den }
+
 -- the fraction divided by n
-abbrev pub over : Fraction → ℕ → Fraction
-over f n = record { num = f .num; den = f .den * n }
+abbrev pub dividedBy : Fraction → ℕ → Fraction
+dividedBy f n = record { num = f .num; den = f .den * n }
 
 -- rounded up to a whole number
 unfoldable pub roundUp : Fraction → ℕ

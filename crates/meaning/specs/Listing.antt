@@ -1,13 +1,14 @@
 -- The program's listing: numbers are decimal, one space apart, and each line ends in one newline.
 use mathlib.Core.Path.{_≡_}
 use mathlib.Core.Bool.{true, false}
+use mathlib.Core.Logic.{_⊎_}
 use mathlib.Core.List.{List, [], _∷_, _++_}
-use Prim.Native.Nat.{ℕ, zero, suc, _+_, _/_, _%_}
+use Prim.Native.Nat.{ℕ, zero, suc, _+_, _/_, _%_, _<_}
 use lib.ListN.{length, getD}
 use lib.Dec.{ltb}
 use Rattle.meaning.specs.Plan.{Plan, Workload, intervals, periods}
 use Rattle.meaning.specs.PlanFile.{Reading, PlanFile, Workloads, readFile}
-use Rattle.meaning.specs.Promises.{SpanFigures, SpanAnswer}
+use Rattle.meaning.specs.Promises.{SpanFigures, SpanAnswered}
 
 -- the last k digits of n at most, as text, without leading zeros
 unfoldable pub digits : ℕ → ℕ → List ℕ
@@ -29,15 +30,15 @@ abbrev wordPlan : List ℕ
 wordPlan = 112 ∷ 108 ∷ 97 ∷ 110 ∷ []
 
 -- " span"
-abbrev wordSpan : List ℕ
+abbrev pub wordSpan : List ℕ
 wordSpan = 32 ∷ 115 ∷ 112 ∷ 97 ∷ 110 ∷ []
 
 -- " stall"
-abbrev wordStall : List ℕ
+abbrev pub wordStall : List ℕ
 wordStall = 32 ∷ 115 ∷ 116 ∷ 97 ∷ 108 ∷ 108 ∷ []
 
 -- " rounds"
-abbrev wordRounds : List ℕ
+abbrev pub wordRounds : List ℕ
 wordRounds = 32 ∷ 114 ∷ 111 ∷ 117 ∷ 110 ∷ 100 ∷ 115 ∷ []
 
 -- " requests"
@@ -103,7 +104,7 @@ answerLine k a xs (suc n) = refusedLine k (suc n)
 abbrev pub workloadAt : Workloads → ℕ → Workload
 workloadAt w k =
     record {
-      core = getD (w .cores) k 0;
+      core = getD (w .analysed) k 0;
       computing = getD (w .computing) k 0;
       requests = getD (w .requests) k 0;
       horizon = getD (w .horizons) k 0;
@@ -114,7 +115,7 @@ abbrev pub WorkloadText : PlanFile → ℕ → List ℕ → Type 0
 WorkloadText f k text =
     (a : SpanFigures)
     × (xs : List ℕ)
-    × SpanAnswer (f .plan) (workloadAt (f .workloads) k) (intervals (f .plan)) a xs
+    × SpanAnswered (f .plan) (workloadAt (f .workloads) k) (intervals (f .plan)) a xs
     × (text ≡ answerLine (suc k) a xs (a .refused))
 
 -- the lines of n workloads from the k-th on, k from 0, and the last line
@@ -132,8 +133,21 @@ linesFrom k (suc n) line = line k ++ linesFrom (suc k) n line
 abbrev pub ListingOf : Reading → List ℕ → Type 0
 ListingOf (Reading.refused n offset) text = text ≡ fileRefusedLine n offset
 ListingOf (Reading.sound f) text =
-    (later : List ℕ) × Lines f 0 (length (f .workloads .cores)) later × (text ≡ planLine (f .plan) ++ later)
+    (later : List ℕ) × Lines f 0 (length (f .workloads .analysed)) later × (text ≡ planLine (f .plan) ++ later)
 
 -- the listing, whole
 abbrev pub Listing : List ℕ → List ℕ → Type 0
 Listing file text = ListingOf (readFile file) text
+
+-- how many lines a listing has: one for a refused file; else the first, one for each workload, and the last
+abbrev pub lineCount : Reading → ℕ
+lineCount (Reading.refused n offset) = 1
+lineCount (Reading.sound f) = length (f .workloads .analysed) + 2
+
+-- line n of the listing of what a file was found to hold, n from 0
+abbrev pub LineOf : Reading → ℕ → List ℕ → Type 0
+LineOf (Reading.refused m offset) n text = (n ≡ 0) × (text ≡ fileRefusedLine m offset)
+LineOf (Reading.sound f) zero text = text ≡ planLine (f .plan)
+LineOf (Reading.sound f) (suc k) text =
+    ((k < length (f .workloads .analysed)) × WorkloadText f k text)
+    ⊎ ((k ≡ length (f .workloads .analysed)) × (text ≡ endLine k))

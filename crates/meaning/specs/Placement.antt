@@ -12,10 +12,14 @@ pub record Part : Type 0 where
   pub share : ℕ
   pub curve : Curve
 
--- of W periods each interval gets its own length, or what is left of W, or 0 (004, equation 1): the one place where shares are made
+-- of W periods each interval gets its own length, or what is left of W, or 0 (004, equation 1)
 unfoldable pub shares : ℕ → List ℕ → List ℕ
 shares w [] = []
 shares w (l ∷ ls) = min l w ∷ shares (w - l) ls
+
+-- the shares of a plan's intervals at W: the one place where a plan's shares are made
+abbrev pub sharesAt : Plan → ℕ → List ℕ
+sharesAt p w = shares w (p .lengths)
 
 -- the parts are these shares with the envelopes of these budgets
 abbrev pub PartsOf : ℕ → ℕ → List ℕ → List (List ℕ) → List Part → Type 0
@@ -27,9 +31,9 @@ PartsOf perPeriod core (w ∷ ws) (r ∷ rs) [] = ⊥
 PartsOf perPeriod core (w ∷ ws) (r ∷ rs) (p ∷ ps) =
     (p .share ≡ w) × EnvelopeOf perPeriod core r (p .curve) × PartsOf perPeriod core ws rs ps
 
--- the parts of a plan for a core, of W periods
-abbrev pub Parts : Plan → ℕ → ℕ → List Part → Type 0
-Parts p core w = PartsOf (p .perPeriod) core (shares w (p .lengths)) (rows p)
+-- the parts of a plan for a core, with these shares
+abbrev pub Parts : Plan → ℕ → List ℕ → List Part → Type 0
+Parts p core ws = PartsOf (p .perPeriod) core ws (rows p)
 
 -- each interval gets a whole number of requests of at most w(j)·q(j)
 abbrev pub Fitting : List Part → List ℕ → Type 0
@@ -66,17 +70,21 @@ pub record Answered (ps : List Part) (requests : ℕ) (xs : List ℕ) : Type 0 w
   pub mostPlaced : (ys : List ℕ) → Greatest ps requests ys → sumOf ys ≤ sumOf xs
   pub mostEarly : (ys : List ℕ) → Greatest ps requests ys → sumOf ys ≡ sumOf xs → NotAhead ys xs
 
--- S(W), the greatest total stall at W: f is the total of a placement of greatest stall
-pub record GreatestStall (p : Plan) (core requests w : ℕ) (f : Fraction) : Type 0 where
+-- the greatest total stall where the intervals have these shares: f is the total of a placement of greatest stall
+pub record GreatestStall (p : Plan) (core requests : ℕ) (ws : List ℕ) (f : Fraction) : Type 0 where
   pub parts : List Part
-  pub ofPlan : Parts p core w parts
+  pub ofPlan : Parts p core ws parts
   pub placement : List ℕ
   pub greatest : Greatest parts requests placement
   pub value : f ≡ total parts placement
 
--- the answered placement at W, and its stall rounded up to a whole slot
-pub record AnsweredAt (p : Plan) (core requests w : ℕ) (xs : List ℕ) (stall : ℕ) : Type 0 where
+-- the answered placement where the intervals have these shares, and its stall rounded up to a whole slot
+pub record AnsweredWith (p : Plan) (core requests : ℕ) (ws xs : List ℕ) (stall : ℕ) : Type 0 where
   pub parts : List Part
-  pub ofPlan : Parts p core w parts
+  pub ofPlan : Parts p core ws parts
   pub answered : Answered parts requests xs
   pub rounded : stall ≡ roundUp (total parts xs)
+
+-- the answered placement at W
+abbrev pub AnsweredAt : Plan → ℕ → ℕ → ℕ → List ℕ → ℕ → Type 0
+AnsweredAt p core requests w = AnsweredWith p core requests (sharesAt p w)

@@ -1,7 +1,9 @@
 -- Units and bounds: a plan of budgets, and a workload on one of its cores.
 use mathlib.Core.List.{List, [], _∷_}
-use Prim.Native.Nat.{ℕ, _+_, _-_}
+use mathlib.Core.Bool.{cond}
+use Prim.Native.Nat.{ℕ, suc, _+_, _-_}
 use lib.ListN.{length, getD, take, drop}
+use lib.Dec.{ltb}
 
 -- cores m: 1 to 8
 abbrev pub mostCores : ℕ
@@ -59,6 +61,10 @@ intervals p = length (p .lengths)
 abbrev pub periods : Plan → ℕ
 periods p = sumOf (p .lengths)
 
+-- the most periods that a horizon, a given W or a run has: T
+abbrev pub mostSpan : Plan → ℕ
+mostSpan p = periods p
+
 -- m budgets for each of the intervals, in order
 unfoldable pub rowsOf : ℕ → List ℕ → List ℕ → List (List ℕ)
 rowsOf m [] budgets = []
@@ -71,3 +77,16 @@ rows p = rowsOf (p .cores) (p .lengths) (p .budgets)
 -- the budget of a core, counted from 1, among the budgets of an interval
 abbrev pub budgetOf : ℕ → List ℕ → ℕ
 budgetOf core row = getD row (core - 1) 0
+
+-- the interval that period k lies in where the intervals have these lengths, both counted from 0
+unfoldable pub intervalOf : List ℕ → ℕ → ℕ
+intervalOf [] k = 0
+intervalOf (l ∷ ls) k = let later = suc (intervalOf ls (k - l)) in cond (ltb k l) 0 later
+
+-- the interval of a plan's period k
+abbrev pub intervalAt : Plan → ℕ → ℕ
+intervalAt p k = intervalOf (p .lengths) k
+
+-- the budgets in force in period k
+abbrev pub inForce : Plan → ℕ → List ℕ
+inForce p k = getD (rows p) (intervalAt p k) []

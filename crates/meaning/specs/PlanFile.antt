@@ -9,9 +9,9 @@ use lib.Count.{ones}
 use Rattle.meaning.specs.Plan.{Plan, All, sumOf, rows, mostWorkloads}
 use Rattle.meaning.specs.Refusals.{refusedIf, _before_, outside, coresRefusal, perPeriodRefusal, intervalsOutside, intervalRefusal, planRefusal, roomRefusal}
 
--- the workloads of a file, as four lists of values
+-- the workloads of a file, as four lists of values: the core under analysis of each, its computing, requests and horizon
 pub record Workloads : Type 0 where
-  pub cores : List ℕ
+  pub analysed : List ℕ
   pub computing : List ℕ
   pub requests : List ℕ
   pub horizons : List ℕ
@@ -112,7 +112,7 @@ withInterval s at p =
 abbrev pub withWorkload : List ℕ → ℕ → Workloads → Workloads
 withWorkload s at w =
     record {
-      cores = w .cores ++ (byteAt s (at + 4) ∷ []);
+      analysed = w .analysed ++ (byteAt s (at + 4) ∷ []);
       computing = w .computing ++ (fourAt s (at + 6) ∷ []);
       requests = w .requests ++ (fourAt s (at + 10) ∷ []);
       horizons = w .horizons ++ (twoAt s (at + 14) ∷ []);
@@ -129,7 +129,7 @@ readWorkloads (suc k) s at f =
 
 -- no workload
 abbrev pub noWorkloads : Workloads
-noWorkloads = record { cores = []; computing = []; requests = []; horizons = [] }
+noWorkloads = record { analysed = []; computing = []; requests = []; horizons = [] }
 
 -- k intervals from an offset on, then the workloads, 0 to 256 of them
 unfoldable pub readIntervals : ℕ → List ℕ → ℕ → Plan → Reading
@@ -188,7 +188,7 @@ fileOf f =
     recordOf 1 (f .plan .cores ∷ 0 ∷ twoBytes (f .plan .perPeriod) ++ twoBytes (length (f .plan .lengths)))
     ++ intervalRecords (f .plan .lengths) (rows (f .plan))
     ++ workloadRecords
-    (f .workloads .cores)
+    (f .workloads .analysed)
     (f .workloads .computing)
     (f .workloads .requests)
     (f .workloads .horizons)
@@ -196,10 +196,10 @@ fileOf f =
 -- more than 256 workloads, or lists of workload values that differ in length
 abbrev pub listsWrong : Workloads → Bool
 listsWrong w =
-    ltb mostWorkloads (length (w .cores))
-    || not (eqb (length (w .computing)) (length (w .cores)))
-    || not (eqb (length (w .requests)) (length (w .cores)))
-    || not (eqb (length (w .horizons)) (length (w .cores)))
+    ltb mostWorkloads (length (w .analysed))
+    || not (eqb (length (w .computing)) (length (w .analysed)))
+    || not (eqb (length (w .requests)) (length (w .analysed)))
+    || not (eqb (length (w .horizons)) (length (w .analysed)))
 
 -- the writer judges 1 to 5, then 25, then 11
 unfoldable pub writeRefusal : PlanFile → ℕ → ℕ
@@ -214,10 +214,10 @@ Bytes s = All (λ (b : ℕ). b < 256) s
 
 -- lists of workload values of one length, at most 256
 pub record RightLists (w : Workloads) : Type 0 where
-  pub few : length (w .cores) ≤ mostWorkloads
-  pub computing : length (w .computing) ≡ length (w .cores)
-  pub requests : length (w .requests) ≡ length (w .cores)
-  pub horizons : length (w .horizons) ≡ length (w .cores)
+  pub few : length (w .analysed) ≤ mostWorkloads
+  pub computing : length (w .computing) ≡ length (w .analysed)
+  pub requests : length (w .requests) ≡ length (w .analysed)
+  pub horizons : length (w .horizons) ≡ length (w .analysed)
 
 -- workload values within their widths in the file: four, four and two bytes
 pub record Widths (w : Workloads) : Type 0 where

@@ -9,14 +9,14 @@ use lib.Dec.{leb}
 use Rattle.meaning.specs.Plan.{Plan, Workload, intervals}
 use Rattle.meaning.specs.Curve.{Curve, raw, rates, count, EnvelopeOf}
 use Rattle.meaning.specs.Placement.{AnsweredAt}
-use Rattle.meaning.specs.Span.{IsSpan, NoSpan, Rounds}
+use Rattle.meaning.specs.Span.{PlacedAt, IsSpan, NoSpan, Rounds}
 use Rattle.meaning.specs.Refusals.{rawRefusal, cornersRefusal, placementRefusal, spanRefusal}
 use Rattle.meaning.specs.PlanFile.{PlanFile, Reading, readFile, fileOf, writeRefusal}
 
 -- by the number that a question is judged with: refused with that number, or, where it is 0, answered
-abbrev pub Judged : ℕ → (ℕ → Type 0) → Type 0 → Type 0
-Judged zero refused answered = answered
-Judged (suc n) refused answered = refused (suc n)
+abbrev pub RefusedOr : ℕ → (ℕ → Type 0) → Type 0 → Type 0
+RefusedOr zero refused answered = answered
+RefusedOr (suc n) refused answered = refused (suc n)
 
 -- a lent place after these numbers are written from its front, the rest kept
 abbrev pub written : List ℕ → List ℕ → List ℕ
@@ -30,7 +30,7 @@ pub record RawFigures : Type 0 where
 -- raw stall at r: refused with zeros, or the raw stall
 abbrev pub RawPromise : ℕ → ℕ → List ℕ → ℕ → ℕ → RawFigures → Type 0
 RawPromise m perPeriod budgets core r a =
-    Judged
+    RefusedOr
     (rawRefusal m perPeriod budgets core r)
     (λ n. a ≡ record { refused = n; stall = 0 })
     (a ≡ record { refused = 0; stall = raw perPeriod budgets core r })
@@ -41,19 +41,19 @@ pub record CornersFigures : Type 0 where
   pub count : ℕ
 
 -- the figures for these corners in a place of this room: 11 exactly when it is shorter
-abbrev pub cornersFigures : Curve → Bool → CornersFigures
-cornersFigures c true = record { refused = 0; count = count c }
-cornersFigures c false = record { refused = 11; count = 0 }
+abbrev pub cornersInRoom : Curve → Bool → CornersFigures
+cornersInRoom c true = record { refused = 0; count = count c }
+cornersInRoom c false = record { refused = 11; count = 0 }
 
 -- corners for one interval: refused with zeros and the place kept, or the corners' rates from the front of the place
 abbrev pub CornersPromise : ℕ → ℕ → List ℕ → ℕ → List ℕ → CornersFigures → List ℕ → Type 0
 CornersPromise m perPeriod budgets core place a after =
-    Judged
+    RefusedOr
     (cornersRefusal m perPeriod budgets core)
     (λ n. (a ≡ record { refused = n; count = 0 }) × (after ≡ place))
     ((c : Curve)
     × EnvelopeOf perPeriod core budgets c
-    × (a ≡ cornersFigures c (leb (count c) (length place)))
+    × (a ≡ cornersInRoom c (leb (count c) (length place)))
     × (after ≡ cond (leb (count c) (length place)) (written (rates c) place) place))
 
 -- the answer to "placement and stall at a given W"
@@ -64,7 +64,7 @@ pub record PlacementFigures : Type 0 where
 -- placement and stall at a given W: refused with zeros and the place kept, or the answered placement from the front of the place
 abbrev pub PlacementPromise : Plan → ℕ → ℕ → ℕ → List ℕ → PlacementFigures → List ℕ → Type 0
 PlacementPromise p core requests n place a after =
-    Judged
+    RefusedOr
     (placementRefusal p core requests n (length place))
     (λ number. (a ≡ record { refused = number; stall = 0 }) × (after ≡ place))
     ((xs : List ℕ)
@@ -88,13 +88,13 @@ noSpanFigures n = record { refused = n; span = 0; stall = 0; rounds = 0 }
 pub record SpanGiven (p : Plan) (w : Workload) (a : SpanFigures) (xs : List ℕ) : Type 0 where
   pub answered : a .refused ≡ 0
   pub isSpan : IsSpan p w (a .span)
-  pub placement : AnsweredAt p (w .core) (w .requests) (a .span) xs (a .stall)
+  pub placement : PlacedAt p w (a .span) xs (a .stall)
   pub rounds : Rounds p w (a .span) (a .rounds)
 
 -- what "span" answers with room for so many numbers: the figures, and the placement, which is empty on a refusal; 12 when there is no span up to H
-abbrev pub SpanAnswer : Plan → Workload → ℕ → SpanFigures → List ℕ → Type 0
-SpanAnswer p w room a xs =
-    Judged
+abbrev pub SpanAnswered : Plan → Workload → ℕ → SpanFigures → List ℕ → Type 0
+SpanAnswered p w room a xs =
+    RefusedOr
     (spanRefusal p w room)
     (λ n. (a ≡ noSpanFigures n) × (xs ≡ []))
     (SpanGiven p w a xs ⊎ (NoSpan p w × (a ≡ noSpanFigures 12) × (xs ≡ [])))
@@ -102,7 +102,7 @@ SpanAnswer p w room a xs =
 -- span: the answer, with the placement from the front of the place; on a refusal the place is kept
 abbrev pub SpanPromise : Plan → Workload → List ℕ → SpanFigures → List ℕ → Type 0
 SpanPromise p w place a after =
-    (xs : List ℕ) × SpanAnswer p w (length place) a xs × (after ≡ written xs place)
+    (xs : List ℕ) × SpanAnswered p w (length place) a xs × (after ≡ written xs place)
 
 -- the answer to "read a plan file"
 pub record ReadFigures : Type 0 where
@@ -117,7 +117,7 @@ pub record ReadFigures : Type 0 where
 pub record Places : Type 0 where
   pub lengths : List ℕ
   pub budgets : List ℕ
-  pub cores : List ℕ
+  pub analysed : List ℕ
   pub computing : List ℕ
   pub requests : List ℕ
   pub horizons : List ℕ
@@ -136,7 +136,7 @@ fileFigures f =
       cores = f .plan .cores;
       perPeriod = f .plan .perPeriod;
       intervals = length (f .plan .lengths);
-      workloads = length (f .workloads .cores);
+      workloads = length (f .workloads .analysed);
     }
 
 -- the places after a sound file is read into them
@@ -145,7 +145,7 @@ fileWritten f places =
     record {
       lengths = written (f .plan .lengths) (places .lengths);
       budgets = written (f .plan .budgets) (places .budgets);
-      cores = written (f .workloads .cores) (places .cores);
+      analysed = written (f .workloads .analysed) (places .analysed);
       computing = written (f .workloads .computing) (places .computing);
       requests = written (f .workloads .requests) (places .requests);
       horizons = written (f .workloads .horizons) (places .horizons);
@@ -164,7 +164,7 @@ fileHeld a places =
           };
       workloads =
           record {
-            cores = take (a .workloads) (places .cores);
+            analysed = take (a .workloads) (places .analysed);
             computing = take (a .workloads) (places .computing);
             requests = take (a .workloads) (places .requests);
             horizons = take (a .workloads) (places .horizons);
@@ -176,7 +176,7 @@ abbrev pub fits : PlanFile → Places → Bool
 fits f places =
     leb (length (f .plan .lengths)) (length (places .lengths))
     && leb (length (f .plan .budgets)) (length (places .budgets))
-    && leb (length (f .workloads .cores)) (length (places .cores))
+    && leb (length (f .workloads .analysed)) (length (places .analysed))
     && leb (length (f .workloads .computing)) (length (places .computing))
     && leb (length (f .workloads .requests)) (length (places .requests))
     && leb (length (f .workloads .horizons)) (length (places .horizons))
@@ -198,12 +198,12 @@ ReadPromise file places a after = ReadingPromise (readFile file) places a after
 -- the answer to "write a plan file"
 pub record WriteFigures : Type 0 where
   pub refused : ℕ
-  pub length : ℕ
+  pub bytes : ℕ
 
 -- write a plan file: refused with zeros and the place kept, or the file's bytes from the front of the place
 abbrev pub WritePromise : PlanFile → List ℕ → WriteFigures → List ℕ → Type 0
 WritePromise f place a after =
-    Judged
+    RefusedOr
     (writeRefusal f (length place))
-    (λ n. (a ≡ record { refused = n; length = 0 }) × (after ≡ place))
-    ((a ≡ record { refused = 0; length = length (fileOf f) }) × (after ≡ written (fileOf f) place))
+    (λ n. (a ≡ record { refused = n; bytes = 0 }) × (after ≡ place))
+    ((a ≡ record { refused = 0; bytes = length (fileOf f) }) × (after ≡ written (fileOf f) place))

@@ -4,7 +4,7 @@ use mathlib.Core.List.{List, [], _∷_}
 use Prim.Native.Nat.{ℕ, zero, suc, _+_, _*_}
 use lib.ListN.{length}
 use lib.Dec.{leb, ltb, eqb}
-use Rattle.meaning.specs.Plan.{Plan, Workload, sumOf, intervals, periods, rows, budgetOf}
+use Rattle.meaning.specs.Plan.{Plan, Workload, sumOf, intervals, mostSpan, rows, budgetOf}
 use Rattle.meaning.specs.Plan.{mostCores, mostPerPeriod, mostIntervals, mostPeriods, mostWork}
 
 infixr 20 _before_
@@ -72,7 +72,7 @@ requestsRefusal requests = refusedIf (outside 0 mostWork requests) 9
 
 -- 10: horizon (or given W) not 1..T
 abbrev pub horizonRefusal : Plan → ℕ → ℕ
-horizonRefusal p n = refusedIf (outside 1 (periods p) n) 10
+horizonRefusal p n = refusedIf (outside 1 (mostSpan p) n) 10
 
 -- 11: the lent result has no room for so many numbers
 abbrev pub roomRefusal : ℕ → ℕ → ℕ

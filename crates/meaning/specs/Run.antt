@@ -1,9 +1,9 @@
 -- Lawful runs, and what "ends within" says.
 use mathlib.Core.Path.{_≡_}
-use mathlib.Core.List.{List, [], _∷_, _++_, map}
-use Prim.Native.Nat.{ℕ, _+_, _≤_}
-use lib.ListN.{length, replicate}
-use Rattle.meaning.specs.Plan.{Plan, Workload, sumOf, rows, budgetOf}
+use mathlib.Core.List.{List, [], _∷_, map}
+use Prim.Native.Nat.{ℕ, suc, _+_, _≤_}
+use lib.ListN.{length}
+use Rattle.meaning.specs.Plan.{Plan, Workload, sumOf, mostSpan, budgetOf, inForce}
 use Rattle.meaning.specs.Curve.{raw}
 
 -- one period of a run: computing e, requests x and stall s, whole slots
@@ -16,25 +16,18 @@ pub record Period : Type 0 where
 abbrev pub used : Period → ℕ
 used d = d .computing + d .requests + d .stall
 
--- the budgets in force in each period, from the plan's first on
-unfoldable pub rowByPeriod : List ℕ → List (List ℕ) → List (List ℕ)
-rowByPeriod [] rs = []
-rowByPeriod (l ∷ ls) [] = []
-rowByPeriod (l ∷ ls) (r ∷ rs) = replicate l r ++ rowByPeriod ls rs
-
 -- x at most that period's budget of the core, s at most the raw stall at x
 pub record Allowed (perPeriod core : ℕ) (row : List ℕ) (d : Period) : Type 0 where
   pub budget : d .requests ≤ budgetOf core row
   pub stalled : d .stall ≤ raw perPeriod row core (d .requests)
 
--- each period is allowed, and e + x + s is equal to Q; in the last period it may be less, and there e + x is at least 1; there are at most as many periods as budgets in force
-abbrev pub LawfulOver : ℕ → ℕ → List (List ℕ) → List Period → Type 0
-LawfulOver perPeriod core rs [] = Unit {0}
-LawfulOver perPeriod core [] (d ∷ ds) = ⊥
-LawfulOver perPeriod core (r ∷ rs) (d ∷ []) =
-    Allowed perPeriod core r d × (used d ≤ perPeriod) × (1 ≤ d .computing + d .requests)
-LawfulOver perPeriod core (r ∷ rs) (d ∷ e ∷ ds) =
-    Allowed perPeriod core r d × (used d ≡ perPeriod) × LawfulOver perPeriod core rs (e ∷ ds)
+-- from period k on each period is allowed under the budgets in force, and e + x + s is equal to Q; in the last period it may be less, and there e + x is at least 1
+abbrev pub LawfulFrom : Plan → ℕ → ℕ → List Period → Type 0
+LawfulFrom p core k [] = Unit {0}
+LawfulFrom p core k (d ∷ []) =
+    Allowed (p .perPeriod) core (inForce p k) d × (used d ≤ p .perPeriod) × (1 ≤ d .computing + d .requests)
+LawfulFrom p core k (d ∷ e ∷ ds) =
+    Allowed (p .perPeriod) core (inForce p k) d × (used d ≡ p .perPeriod) × LawfulFrom p core (suc k) (e ∷ ds)
 
 -- the computing of a run
 abbrev pub computed : List Period → ℕ
@@ -46,7 +39,8 @@ requested ds = sumOf (map (λ (d : Period). d .requests) ds)
 
 -- a lawful run: at most T periods starting with the plan's first; the computing sums to at most E, the requests to at most the workload's
 pub record Lawful (p : Plan) (w : Workload) (run : List Period) : Type 0 where
-  pub periodByPeriod : LawfulOver (p .perPeriod) (w .core) (rowByPeriod (p .lengths) (rows p)) run
+  pub within : length run ≤ mostSpan p
+  pub periodByPeriod : LawfulFrom p (w .core) 0 run
   pub computing : computed run ≤ w .computing
   pub requests : requested run ≤ w .requests
 

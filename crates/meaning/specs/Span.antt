@@ -1,10 +1,11 @@
 -- Span: which W holds the work, the least such W up to the horizon, 004's terms, and the rounds.
 use mathlib.Core.Path.{_≡_}
 use mathlib.Core.Logic.{_⊎_}
+use mathlib.Core.List.{List}
 use Prim.Native.Nat.{ℕ, zero, suc, _+_, _*_, _≤_, _<_}
-use Rattle.meaning.specs.Fraction.{Fraction, whole, _≤ᶠ_, _+ᶠ_, over, roundUp}
+use Rattle.meaning.specs.Fraction.{Fraction, whole, _≤ᶠ_, _+ᶠ_, dividedBy, roundUp}
 use Rattle.meaning.specs.Plan.{Plan, Workload}
-use Rattle.meaning.specs.Placement.{GreatestStall}
+use Rattle.meaning.specs.Placement.{sharesAt, GreatestStall, AnsweredAt}
 
 -- the computing and the requests, in slots: a request is one slot
 abbrev pub work : Workload → ℕ
@@ -12,7 +13,11 @@ work w = w .computing + w .requests
 
 -- S(W) for a workload
 abbrev pub StallAt : Plan → Workload → ℕ → Fraction → Type 0
-StallAt p w n f = GreatestStall p (w .core) (w .requests) n f
+StallAt p w n f = GreatestStall p (w .core) (w .requests) (sharesAt p n) f
+
+-- the answered placement of a workload at W, and its stall
+abbrev pub PlacedAt : Plan → Workload → ℕ → List ℕ → ℕ → Type 0
+PlacedAt p w n = AnsweredAt p (w .core) (w .requests) n
 
 -- W holds the work: E + requests + S(W) is at most W·Q
 pub record Holds (p : Plan) (w : Workload) (n : ℕ) : Type 0 where
@@ -33,13 +38,13 @@ NoSpan p w = (n : ℕ) → 1 ≤ n → n ≤ w .horizon → Holds p w n → ⊥
 
 -- the first term (004, equation 11): (E + requests)/Q rounded up
 abbrev pub firstTerm : Plan → Workload → ℕ
-firstTerm p w = roundUp (over (whole (work w)) (p .perPeriod))
+firstTerm p w = roundUp (dividedBy (whole (work w)) (p .perPeriod))
 
 -- the term after t: (E + requests + S(t))/Q rounded up
 pub record NextTerm (p : Plan) (w : Workload) (t next : ℕ) : Type 0 where
   pub stall : Fraction
   pub greatest : StallAt p w t stall
-  pub rounded : next ≡ roundUp (over (whole (work w) +ᶠ stall) (p .perPeriod))
+  pub rounded : next ≡ roundUp (dividedBy (whole (work w) +ᶠ stall) (p .perPeriod))
 
 -- from term t the search computes k terms more, and the last is the first that is equal to the one before it, n; none is past the horizon
 abbrev pub SettlesFrom : Plan → Workload → ℕ → ℕ → ℕ → Type 0

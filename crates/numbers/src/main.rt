@@ -1,61 +1,31 @@
 // The numbers that document 01 works by hand, answered by the library, each with what it says. P1 to P10 are proved too (crates/demands).
-use curve::CornersAnswer;
-use curve::RawAnswer;
+use interval::CornersAnswer;
+use interval::RawAnswer;
 use libc::STDOUT_FILENO;
-use planfile::WriteAnswer;
-use span::PlacementAnswer;
-use span::SpanAnswer;
+use tell::say;
+use tell::tell;
+use tell::tell_placement;
+use tell::tell_rates;
+use tell::tell_refused;
+use tell::tell_span;
+use units::Head;
 use units::Periods;
-use units::Refusal;
 use units::Requests;
 use units::Slots;
+use units::Workload;
+use writer::WriteAnswer;
 
-// Words, as they are.
-fn say(words: &[u8]) {
-    io::write_all(STDOUT_FILENO, words);
-}
-
-// A number after a space.
-fn tell(number: u32) {
-    say(b" ");
-    io::print_decimal(STDOUT_FILENO, number as u64);
-}
-
-// Each number after a space, and the end of the line.
-fn tell_all(numbers: &[u32]) {
-    let mut k = 0;
-    while k < numbers.len() {
-        tell(numbers[k]);
-        k += 1;
+// The head of a plan of four cores with Q = 16.
+fn four_cores() -> Head {
+    Head {
+        cores: 4,
+        per_period: Slots(16),
     }
-    say(b"\n");
-}
-
-// A rate, as wide as the numbers that are told.
-fn wide(rate: u16) -> u32 {
-    rate as u32
-}
-
-// Each rate after a space, and the end of the line.
-fn tell_rates(rates: &[u16]) {
-    let mut k = 0;
-    while k < rates.len() {
-        tell(wide(rates[k]));
-        k += 1;
-    }
-    say(b"\n");
-}
-
-// A refusal by its number, and the end of the line.
-fn tell_refused(refusal: Refusal) {
-    say(b" refused");
-    tell(refusal.number() as u32);
-    say(b"\n");
 }
 
 // The raw stall of a core at a rate, with Q = 16.
 fn tell_raw(budgets: &[u16], core: u8, rate: Requests) {
-    match curve::raw_stall(4, Slots(16), budgets, core, rate) {
+    match interval::raw_stall(four_cores(), budgets, core, rate) {
         RawAnswer::Stall(stall) => tell(stall.0),
         RawAnswer::Refused(refusal) => tell_refused(refusal),
     }
@@ -78,145 +48,63 @@ fn tell_raws(words: &[u8], core: u8, budget: u16) {
 fn tell_corners(words: &[u8], core: u8, rates: &mut [u16]) {
     let budgets = [2u16, 2, 5, 7];
     say(words);
-    match curve::corners(4, Slots(16), &budgets, core, rates) {
+    match interval::corners(four_cores(), &budgets, core, rates) {
         CornersAnswer::Count(_) => tell_rates(rates),
         CornersAnswer::Refused(refusal) => tell_refused(refusal),
     }
 }
 
-// The span of a workload on a plan, with the placement where there is one.
-fn tell_span(
-    words: &[u8],
-    cores: u8,
-    each: Slots,
-    lengths: &[u16],
-    budgets: &[u16],
-    core: u8,
-    computing: Slots,
-    requests: Requests,
-    horizon: Periods,
-    placement: &mut [u32],
-) {
-    say(words);
-    match span::span(
-        cores,
-        each,
-        lengths,
-        budgets,
+// A workload by its numbers.
+fn work(core: u8, computing: u32, requests: u32, horizon: u16) -> Workload {
+    Workload {
         core,
-        computing,
-        requests,
-        horizon,
-        placement,
-    ) {
-        SpanAnswer::Found {
-            span,
-            stall,
-            rounds,
-        } => {
-            say(b" span");
-            tell(span.0 as u32);
-            say(b" stall");
-            tell(stall.0);
-            say(b" rounds");
-            tell(rounds);
-            say(b" requests");
-            tell_all(placement);
-        }
-        SpanAnswer::Refused(refusal) => tell_refused(refusal),
+        computing: Slots(computing),
+        requests: Requests(requests),
+        horizon: Periods(horizon),
     }
 }
 
 // A span with budgets 2, 2, 5, 7, Q = 16 and one interval of 20 periods.
-fn span_of_twenty(words: &[u8], core: u8, computing: Slots, requests: Requests, horizon: Periods) {
+fn span_of_twenty(words: &[u8], workload: Workload) {
     let lengths = [20u16];
     let budgets = [2u16, 2, 5, 7];
     let mut placement = [0u32; 1];
     tell_span(
         words,
-        4,
-        Slots(16),
+        four_cores(),
         &lengths,
         &budgets,
-        core,
-        computing,
-        requests,
-        horizon,
+        workload,
         &mut placement,
     );
 }
 
 // A span of one core that is alone, with Q its budget and one interval as long as the horizon.
-fn span_alone(words: &[u8], each: u16, computing: Slots, requests: Requests, horizon: Periods) {
+fn span_alone(words: &[u8], budget: u16, workload: Workload) {
+    let horizon = workload.horizon;
     let lengths = [horizon.0];
-    let budgets = [each];
+    let budgets = [budget];
     let mut placement = [0u32; 1];
-    let slots = Slots(each as u32);
-    tell_span(
-        words,
-        1,
-        slots,
-        &lengths,
-        &budgets,
-        1,
-        computing,
-        requests,
-        horizon,
-        &mut placement,
-    );
+    let head = Head {
+        cores: 1,
+        per_period: Slots(budget as u32),
+    };
+    tell_span(words, head, &lengths, &budgets, workload, &mut placement);
 }
 
-// A span of the listing's plan.
-fn span_of_listing(words: &[u8], horizon: Periods) {
+// A span of the listing's plan, core 3 with computing 10 and 10 requests.
+fn span_of_listing(words: &[u8], horizon: u16) {
     let lengths = [1u16, 4];
     let budgets = [2u16, 2, 5, 7, 4, 4, 4, 4];
     let mut placement = [0u32; 2];
-    let requests = Requests(10);
     tell_span(
         words,
-        4,
-        Slots(16),
+        four_cores(),
         &lengths,
         &budgets,
-        3,
-        Slots(10),
-        requests,
-        horizon,
+        work(3, 10, 10, horizon),
         &mut placement,
     );
-}
-
-// The placement and stall at a given W, with the placement.
-fn tell_placement(
-    words: &[u8],
-    cores: u8,
-    each: Slots,
-    lengths: &[u16],
-    budgets: &[u16],
-    core: u8,
-    requests: Requests,
-    periods: Periods,
-    placement: &mut [u32],
-) {
-    say(words);
-    match span::placement(
-        cores,
-        each,
-        lengths,
-        budgets,
-        core,
-        requests,
-        periods,
-        placement,
-    ) {
-        PlacementAnswer::Stall(stall) => {
-            say(b" stall");
-            tell(stall.0);
-            say(b" requests");
-            tell_all(placement);
-        }
-        PlacementAnswer::Refused(refusal) => tell_refused(refusal),
-    }
 }
 
 // 004's section VI at W = 6: three intervals, core 3, 25 requests.
@@ -228,8 +116,7 @@ fn section_six() {
     let requests = Requests(25);
     tell_placement(
         words,
-        4,
-        Slots(16),
+        four_cores(),
         &lengths,
         &budgets,
         3,
@@ -248,8 +135,7 @@ fn exact_fraction() {
     let requests = Requests(35);
     tell_placement(
         words,
-        4,
-        Slots(16),
+        four_cores(),
         &lengths,
         &budgets,
         3,
@@ -268,8 +154,7 @@ fn rounded_once() {
     let requests = Requests(9);
     tell_placement(
         words,
-        4,
-        Slots(16),
+        four_cores(),
         &lengths,
         &budgets,
         3,
@@ -286,10 +171,13 @@ fn unequal_slopes() {
     let budgets = [40u16, 64, 39, 65];
     let mut placed = [0u32; 2];
     let requests = Requests(39);
+    let head = Head {
+        cores: 2,
+        per_period: Slots(104),
+    };
     tell_placement(
         words,
-        2,
-        Slots(104),
+        head,
         &lengths,
         &budgets,
         1,
@@ -303,17 +191,20 @@ fn unequal_slopes() {
 fn longest_file(words: &[u8], place: &mut [u8]) {
     let lengths = [1u16; 64];
     let budgets = [1u16; 512];
-    let cores = [1u8; 256];
+    let analysed = [1u8; 256];
     let computing = [1u32; 256];
     let requests = [0u32; 256];
     let horizons = [1u16; 256];
+    let head = Head {
+        cores: 8,
+        per_period: Slots(8),
+    };
     say(words);
-    let answer = planfile::write(
-        8,
-        Slots(8),
+    let answer = writer::write(
+        head,
         &lengths,
         &budgets,
-        &cores,
+        &analysed,
         &computing,
         &requests,
         &horizons,
@@ -350,43 +241,31 @@ fn curves() {
 
 // P4 to P10.
 fn spans() {
-    span_of_twenty(b"P4:", 3, Slots(40), Requests(35), Periods(20));
-    span_of_twenty(b"P4, H = 10:", 3, Slots(40), Requests(35), Periods(10));
-    span_of_twenty(b"P5:", 3, Slots(40), Requests(35), Periods(9));
-    span_of_twenty(b"P6:", 3, Slots(17), Requests(0), Periods(20));
-    span_of_twenty(b"P6, E 16:", 3, Slots(16), Requests(0), Periods(20));
-    span_of_twenty(b"P7:", 3, Slots(1), Requests(4), Periods(20));
-    span_of_twenty(b"P7, 5 requests:", 3, Slots(1), Requests(5), Periods(20));
-    span_of_twenty(b"P8:", 1, Slots(1), Requests(1), Periods(20));
-    span_of_twenty(b"P8, 2 requests:", 1, Slots(1), Requests(2), Periods(20));
-    span_alone(b"P9:", 16, Slots(10), Requests(22), Periods(20));
-    span_of_listing(b"P10:", Periods(5));
-    span_of_listing(b"P10, H = 3:", Periods(3));
+    span_of_twenty(b"P4:", work(3, 40, 35, 20));
+    span_of_twenty(b"P4, H = 10:", work(3, 40, 35, 10));
+    span_of_twenty(b"P5:", work(3, 40, 35, 9));
+    span_of_twenty(b"P6:", work(3, 17, 0, 20));
+    span_of_twenty(b"P6, E 16:", work(3, 16, 0, 20));
+    span_of_twenty(b"P7:", work(3, 1, 4, 20));
+    span_of_twenty(b"P7, 5 requests:", work(3, 1, 5, 20));
+    span_of_twenty(b"P8:", work(1, 1, 1, 20));
+    span_of_twenty(b"P8, 2 requests:", work(1, 1, 2, 20));
+    span_alone(b"P9:", 16, work(1, 10, 22, 20));
+    span_of_listing(b"P10:", 5);
+    span_of_listing(b"P10, H = 3:", 3);
 }
 
 // Computing, requests and the length of a file, at their limits and one past them.
 fn limits() {
-    let all = Slots(Slots::MAX);
-    let past = Slots(Slots::MAX + 1);
-    let last = Periods(Periods::MAX);
-    span_alone(
-        b"E 4,294,836,225 at Q 65,535:",
-        65_535,
-        all,
-        Requests(0),
-        last,
-    );
-    span_alone(b"E 4,294,836,226:", 65_535, past, Requests(0), last);
-    span_alone(
-        b"requests 4,294,836,225:",
-        65_535,
-        Slots(1),
-        Requests(Requests::MAX),
-        last,
-    );
-    let one = Slots(1);
-    let many = Requests(Requests::MAX + 1);
-    span_alone(b"requests 4,294,836,226:", 65_535, one, many, last);
+    let last = Periods::MAX;
+    let all = work(1, Slots::MAX, 0, last);
+    let past = work(1, Slots::MAX + 1, 0, last);
+    let most = work(1, 1, Requests::MAX, last);
+    let many = work(1, 1, Requests::MAX + 1, last);
+    span_alone(b"E 4,294,836,225 at Q 65,535:", 65_535, all);
+    span_alone(b"E 4,294,836,226:", 65_535, past);
+    span_alone(b"requests 4,294,836,225:", 65_535, most);
+    span_alone(b"requests 4,294,836,226:", 65_535, many);
     let mut enough = [0u8; 5642];
     let mut short = [0u8; 5641];
     longest_file(b"the longest file, in bytes: ", &mut enough);

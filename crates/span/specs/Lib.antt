@@ -1,9 +1,4 @@
 pub mod Figures
-pub mod Makers
-pub mod Asked
-pub mod Zeros
-pub mod Shares
 pub mod Corners
 pub mod Ordered
-pub mod Searched
 pub mod Answered

@@ -11,11 +11,11 @@ use lib.ListN.{length, getD, take, drop, set, replicate, length-append, length-s
 use lib.Seq.{length-take-le, drop-at, getD-take, getD-set-same, getD-set-other, drop-set-lt}
 use lib.Dec.{eqb}
 use borrow.Author.Tests.{le-leb, lt-leb, eq-eqb, ne-eqb}
-use Rattle.laws.specs.Order.{le-or-lt, eq-or-ne}
-use Rattle.laws.specs.Indexed.{listFrom}
-use Rattle.laws.specs.Filling.{Pick, more, fill}
-use Rattle.stall.specs.Packed.{pickOf, between}
-use Rattle.stall.specs.Places.{list-of, between-none, between-first}
+use Rattle.number_laws.specs.Order.{le-or-lt, eq-or-ne}
+use Rattle.number_laws.specs.Lists.{listFrom}
+use Rattle.placement_laws.specs.Filling.{Pick, more, fill}
+use Rattle.segments.specs.Packed.{pickOf, between}
+use Rattle.segments.specs.Places.{list-of, between-none, between-first}
 
 -- what is filled in an interval goes by what is placed there alone
 fill-at : (share : ℕ → ℕ) (o : List Pick) (requests : ℕ) (x y : ℕ → ℕ) (j : ℕ)

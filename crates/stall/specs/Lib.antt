@@ -1,11 +1,2 @@
-pub mod Blocks
-pub mod Packed
-pub mod Groups
-pub mod Places
-pub mod Merges
-pub mod Levels
-pub mod Orders
-pub mod Corners
-pub mod Listing
 pub mod Walks
 pub mod Fills

@@ -9,11 +9,15 @@ use native.Mathlib.Omega.{arith}
 use lib.ListN.{getD}
 use borrow.Author.Tests.{le-leb, lt-leb}
 use Rattle.meaning.specs.Fraction.{roundUp}
-use Rattle.laws.specs.Indexed.{listFrom}
-use Rattle.laws.specs.Filling.{Pick, Walk, walk, raised}
-use Rattle.laws.specs.Answering.{walkStall}
-use Rattle.stall.specs.Packed.{pickOf, between, Every}
-use Rattle.stall.specs.Places.{between-none, between-first}
+use Rattle.number_laws.specs.Lists.{listFrom}
+use Rattle.placement_laws.specs.Filling.{Pick, Walk, walk, raised}
+use Rattle.placement_laws.specs.FillingAnswers.{walkStall}
+use Rattle.segments.specs.Packed.{pickOf, between, Every}
+use Rattle.segments.specs.Places.{between-none, between-first}
+
+-- the share of an interval, counted from 0
+abbrev pub shareAt : List ℕ → ℕ → ℕ
+shareAt shares i = getD shares i 0
 
 -- what holds of every segment of a list holds of each
 every-from : (P : Pick → Type 0) (f : ℕ → Pick) (i n k : ℕ) → Every P (listFrom i n f) → i ≤ k → k < i + n → P (f k)

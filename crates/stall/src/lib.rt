@@ -1,215 +1,23 @@
-// Greatest stall and the answered placement, for shares and curves that are given.
+// Greatest stall and the answered placement, for shares and an order of filling that are given.
 ghost use mathlib.Core.Path.{_≡_};
-ghost use mathlib.Core.List.{[], _++_};
-ghost use Prim.Native.Nat.{_+_, _-_, _*_, _≤_, _<_, min};
+ghost use mathlib.Core.List.{_++_};
+ghost use Prim.Native.Nat.{_+_, _*_, _≤_, _<_};
 ghost use lib.ListN.{length, getD, drop, set, replicate};
 ghost use Rattle.units.specs.Units.{slotsOf};
 ghost use Rattle.meaning.specs.Fraction.{roundUp};
-ghost use Rattle.laws.specs.Indexed.{listFrom};
-ghost use Rattle.laws.specs.Filling.{walk, fill};
-ghost use Rattle.laws.specs.Answering.{walkStall};
-ghost use Rattle.stall.specs.Blocks.{curveOf, curveAt, Curves, Segments};
-ghost use Rattle.stall.specs.Packed.{pickOf, between, shareAt, Runs, Inside, Orders};
-ghost use Rattle.stall.specs.Groups.{Written, Starts, Listed, Chosen, Joined, Levelled};
+ghost use Rattle.number_laws.specs.Lists.{listFrom};
+ghost use Rattle.placement_laws.specs.Filling.{walk, fill};
+ghost use Rattle.placement_laws.specs.FillingAnswers.{walkStall};
+ghost use Rattle.segments.specs.Packed.{pickOf, between, Runs, Inside};
+ghost use Rattle.stall.specs.Walks.{shareAt};
+use segments::crossed;
+use segments::interval_of;
+use segments::rise_of;
+use segments::run_of;
 use units::MadeSlots;
 use units::Requests;
 use units::Slots;
-
-// A segment is packed into one number: its interval below its run, which begins at 2^16 and is below 2^16 itself.
-const RUN_PLACE: u64 = 65_536;
-
-// Above the run stands the rise, which begins at 2^32.
-const RISE_PLACE: u64 = 4_294_967_296;
-
-// The segments of all intervals in the order of filling: the first count of the places.
-pub struct Ordered {
-    pub picks: [u64; 512],
-    pub count: usize,
-}
-
-// A number of a lent array, as wide as a product.
-fn wide(number: u16) -> u64
-    ensures { λ r. ⌜ (r ≡ number) × (r ≤ 65_535) ⌝ }
-{
-    number as u64
-}
-
-// The lesser of two places.
-fn least(first: usize, second: usize) -> usize
-    ensures { λ r. ⌜ r ≡ min first second ⌝ }
-{
-    if first < second { first } else { second }
-}
-
-// The interval of a packed segment.
-fn interval_of(segment: u64) -> usize
-    ensures { λ r. ⌜ (r ≡ pickOf segment .interval) × (r < 64) ⌝ }
-{
-    (segment % 64) as usize
-}
-
-// The run of a packed segment.
-fn run_of(segment: u64) -> Requests
-    ensures { λ r. ⌜ (r .0 ≡ pickOf segment .run) × (r .0 ≤ 65_535) ⌝ }
-{
-    Requests((segment / RUN_PLACE % RUN_PLACE) as u32)
-}
-
-// The rise of a packed segment.
-fn rise_of(segment: u64) -> Slots
-    ensures { λ r. ⌜ (r .0 ≡ pickOf segment .rise) × (r .0 ≤ 4_294_967_295) ⌝ }
-{
-    Slots((segment / RISE_PLACE) as u32)
-}
-
-// A segment packed into one number.
-fn packed(rise: Slots, run: Requests, interval: usize) -> u64
-    requires { ⌜ (rise .0 ≤ 65_535) × (run .0 ≤ 65_535) × (interval < 64) ⌝ }
-    ensures { λ r. ⌜ pickOf r ≡ record { interval = interval; run = run .0; rise = rise .0 } ⌝ }
-{
-    rise.0 as u64 * RISE_PLACE + run.0 as u64 * RUN_PLACE + interval as u64
-}
-
-// A rise times a run, by which slopes are compared.
-fn crossed(rise: Slots, run: Requests) -> u64
-    ensures { λ r. ⌜ (r ≡ rise .0 * run .0) × (r ≤ 18_446_744_065_119_617_025) ⌝ }
-{
-    rise.0 as u64 * run.0 as u64
-}
-
-// What the numbers of an interval's block gain from one corner to the next: rates and stalls alike, so the caller names the unit.
-fn gained(blocks: &[[u16; 9]; 64], interval: usize, k: usize) -> u32
-    requires { ⌜ (interval < 64) × (k < 8) × (getD (getD (now blocks) interval []) k 0 ≤ getD (getD (now blocks) interval []) (k + 1) 0) ⌝ }
-    ensures { λ r. ⌜ (r ≡ getD (getD (now (blocks .entry)) interval []) (k + 1) 0 - getD (getD (now (blocks .entry)) interval []) k 0) × (r ≤ 65_535) ⌝ }
-{
-    (wide(blocks[interval][k + 1]) - wide(blocks[interval][k])) as u32
-}
-
-// The segments of one interval, from a place on; the place after them.
-fn segments(
-    rates: &[[u16; 9]; 64],
-    stalls: &[[u16; 9]; 64],
-    corners: usize,
-    interval: usize,
-    picks: &mut [u64; 512],
-    start: usize,
-) -> usize
-    requires { ⌜ (interval < 64) × (corners ≤ 9) × (start ≤ 504) × (length (now picks) ≡ 512) × Segments (curveOf corners (getD (now rates) interval []) (getD (now stalls) interval [])) ⌝ }
-    ensures { λ r. ⌜ Written interval (curveOf corners (getD (now (rates .entry)) interval []) (getD (now (stalls .entry)) interval [])) (now (picks .entry)) (now (picks .exit)) start r ⌝ }
-{
-    let mut at = start;
-    let mut k = 0;
-    while k + 1 < corners {
-        let run = Requests(gained(rates, interval, k));
-        let rise = Slots(gained(stalls, interval, k));
-        picks[at] = packed(rise, run, interval);
-        at += 1;
-        k += 1;
-    }
-    at
-}
-
-// The segments of each interval one after another, and where each interval's start.
-fn list(
-    rates: &[[u16; 9]; 64],
-    stalls: &[[u16; 9]; 64],
-    counts: &[u8; 64],
-    intervals: usize,
-    picks: &mut [u64; 512],
-    starts: &mut [usize; 65],
-)
-    requires { ⌜ (intervals ≤ 64) × (length (now picks) ≡ 512) × (length (now starts) ≡ 65) × Curves intervals (now rates) (now stalls) (now counts) ⌝ }
-    ensures { λ r. ⌜ Listed intervals (curveAt (now (rates .entry)) (now (stalls .entry)) (now (counts .entry))) (now (picks .exit)) (now (starts .exit)) ⌝ }
-{
-    let mut at = 0;
-    let mut i = 0;
-    starts[0] = 0;
-    while i < intervals {
-        at = segments(rates, stalls, counts[i] as usize, i, picks, at);
-        i += 1;
-        starts[i] = at;
-    }
-}
-
-// Whether the next segment is the left group's: it has one left, and that of the right group is no steeper.
-fn left_next(picks: &[u64; 512], left: usize, middle: usize, right: usize, high: usize) -> bool
-    requires { ⌜ (left ≤ middle) × (middle ≤ 512) × (right ≤ high) × (high ≤ 512) × (left + right < middle + high) ⌝ }
-    ensures { λ r. ⌜ Chosen (now (picks .entry)) left middle right high r ⌝ }
-{
-    if left == middle {
-        return false;
-    }
-    if right == high {
-        return true;
-    }
-    let first = picks[left];
-    let second = picks[right];
-    crossed(rise_of(second), run_of(first)) <= crossed(rise_of(first), run_of(second))
-}
-
-// Two neighbouring groups merged: the steeper segment first, and of equal ones that of the left group.
-fn merge(from: &[u64; 512], to: &mut [u64; 512], low: usize, middle: usize, high: usize)
-    requires { ⌜ (low ≤ middle) × (middle ≤ high) × (high ≤ 512) × (length (now to) ≡ 512) ⌝ }
-    ensures { λ r. ⌜ Joined (now (from .entry)) (now (to .entry)) (now (to .exit)) low middle high ⌝ }
-{
-    let mut left = low;
-    let mut right = middle;
-    let mut at = low;
-    while at < high {
-        if left_next(from, left, middle, right, high) {
-            to[at] = from[left];
-            left += 1;
-        } else {
-            to[at] = from[right];
-            right += 1;
-        }
-        at += 1;
-    }
-}
-
-// Each two neighbouring groups of so many intervals merged into one.
-fn level(
-    from: &[u64; 512],
-    to: &mut [u64; 512],
-    starts: &[usize; 65],
-    intervals: usize,
-    width: usize,
-)
-    requires { ⌜ (intervals ≤ 64) × (1 ≤ width) × (width ≤ 128) × (length (now to) ≡ 512) × Starts intervals (now starts) ⌝ }
-    ensures { λ r. ⌜ Levelled intervals (now (starts .entry)) width (now (from .entry)) (now (to .exit)) ⌝ }
-{
-    let mut low = 0;
-    while low < intervals {
-        let middle = least(low + width, intervals);
-        let high = least(middle + width, intervals);
-        merge(from, to, starts[low], starts[middle], starts[high]);
-        low = high;
-    }
-}
-
-// The order of all segments: by falling slope, ties to the lower interval.
-pub fn order(
-    rates: &[[u16; 9]; 64],
-    stalls: &[[u16; 9]; 64],
-    counts: &[u8; 64],
-    intervals: usize,
-) -> Ordered
-    requires { ⌜ (intervals ≤ 64) × Curves intervals (now rates) (now stalls) (now counts) ⌝ }
-    ensures { λ r. ⌜ Orders intervals (curveAt (now (rates .entry)) (now (stalls .entry)) (now (counts .entry))) (r .picks) (r .count) ⌝ }
-{
-    let mut picks = [0u64; 512];
-    let mut spare = [0u64; 512];
-    let mut starts = [0usize; 65];
-    list(rates, stalls, counts, intervals, &mut picks, &mut starts);
-    let mut width = 1;
-    while width < intervals {
-        level(&picks, &mut spare, &starts, intervals, width);
-        level(&spare, &mut picks, &starts, intervals, 2 * width);
-        width = 4 * width;
-    }
-    let count = starts[intervals];
-    Ordered { picks, count }
-}
+use units::wide;
 
 // The stall of so many requests on a segment, rounded up to a whole slot: a number of slots that may be past what the unit holds.
 fn part(requests: Requests, rise: Slots, run: Requests) -> u64
@@ -218,6 +26,13 @@ fn part(requests: Requests, rise: Slots, run: Requests) -> u64
 {
     let most = run.0 as u64 - 1;
     (crossed(rise, requests) + most) / run.0 as u64
+}
+
+// The share of a packed segment's interval, as wide as a product.
+fn share_of(shares: &[u16; 64], segment: u64) -> u64
+    ensures { λ r. ⌜ (r ≡ shareAt (now (shares .entry)) (pickOf segment .interval)) × (r ≤ 65_535) ⌝ }
+{
+    wide(shares[interval_of(segment)]) as u64
 }
 
 // The greatest stall, rounded up to a whole slot.
@@ -235,7 +50,7 @@ pub fn greatest(
     let mut k = 0;
     while k < count {
         let segment = picks[k];
-        let share = wide(shares[interval_of(segment)]);
+        let share = share_of(shares, segment);
         let rise = rise_of(segment);
         let run = run_of(segment);
         let room = share * run.0 as u64;
@@ -288,7 +103,7 @@ pub fn place(
     while k < count {
         let segment = picks[k];
         let i = interval_of(segment);
-        let most = wide(shares[i]) * run_of(segment).0 as u64;
+        let most = share_of(shares, segment) * run_of(segment).0 as u64;
         if left <= most {
             let last = left as u32;
             grant(placement, i, Requests(last));

@@ -1,6 +1,7 @@
-// The three units of the analysis, and the refusals. A count of slots never stands where a count of periods is wanted.
+// The three units of the analysis, the values that several crates hand on, and the refusals. A count of slots never stands where a count
+// of periods is wanted.
 ghost use mathlib.Core.Path.{_≡_};
-ghost use Prim.Native.Nat.{_+_, _*_};
+ghost use Prim.Native.Nat.{_+_, _*_, _≤_};
 ghost use Rattle.units.specs.Units.{slotsOf, perPeriodOf, periodsOf, requestsOf, periodsHolding};
 ghost use Rattle.units.specs.Refusals.{numberOf};
 
@@ -64,13 +65,13 @@ impl Slots {
     }
 
     // The least number of periods that holds these slots, where a plan can have so many.
-    pub fn periods(self, each: Slots) -> MadePeriods
-        ensures { λ r. ⌜ r ≡ periodsHolding (self .0) (each .0) ⌝ }
+    pub fn periods(self, per_period: Slots) -> MadePeriods
+        ensures { λ r. ⌜ r ≡ periodsHolding (self .0) («per_period» .0) ⌝ }
     {
-        if each.0 == 0 {
+        if per_period.0 == 0 {
             return MadePeriods::Outside;
         }
-        let rounded = (self.0 as u64 + (each.0 as u64 - 1)) / each.0 as u64;
+        let rounded = (self.0 as u64 + (per_period.0 as u64 - 1)) / per_period.0 as u64;
         Periods::checked(rounded)
     }
 }
@@ -91,10 +92,10 @@ impl Periods {
     }
 
     // The slots of these periods.
-    pub fn slots(self, each: Slots) -> MadeSlots
-        ensures { λ r. ⌜ r ≡ slotsOf (self .0 * each .0) ⌝ }
+    pub fn slots(self, per_period: Slots) -> MadeSlots
+        ensures { λ r. ⌜ r ≡ slotsOf (self .0 * «per_period» .0) ⌝ }
     {
-        Slots::checked(self.0 as u64 * each.0 as u64)
+        Slots::checked(self.0 as u64 * per_period.0 as u64)
     }
 }
 
@@ -121,13 +122,63 @@ impl Requests {
     }
 }
 
+// The head of a plan: its cores, and Q, the slots of each of its periods.
+pub struct Head {
+    pub cores: u8,
+    pub per_period: Slots,
+}
+
+impl Head {
+    // The most cores that a plan has.
+    pub const MOST_CORES: u8 = 8;
+
+    // The most intervals that a plan has.
+    pub const MOST_INTERVALS: u8 = 64;
+}
+
+// A workload: the core that it runs on, counted from 1, its computing and its requests there, and the horizon, the last period of interest.
+pub struct Workload {
+    pub core: u8,
+    pub computing: Slots,
+    pub requests: Requests,
+    pub horizon: Periods,
+}
+
+impl Workload {
+    // The most workloads that a file has.
+    pub const MOST: u16 = 256;
+}
+
+// The corners of one interval in a fixed block of nine, with a count; places past the count are 0.
+pub struct Block {
+    pub rates: [u16; 9],
+    pub stalls: [u16; 9],
+    pub count: u8,
+}
+
+impl Block {
+    // The block of no corners.
+    pub const EMPTY: Block = Block {
+        rates: [0u16; 9],
+        stalls: [0u16; 9],
+        count: 0,
+    };
+}
+
+// A number of two bytes as one of four.
+pub fn wide(number: u16) -> u32
+    ensures { λ r. ⌜ (r ≡ number) × (r ≤ 65_535) ⌝ }
+{
+    number as u32
+}
+
 // What a question is refused for, one case for each number of the table in document 01.
 pub enum Refusal {
     CoresOutside,
-    SlotsPerPeriodOutside,
-    IntervalsOutside,
+    PerPeriodOutside,
+    IntervalsOrBudgetsOutside,
     PeriodsOutside,
-    BudgetsNotWhole,
+    SumNotPerPeriod,
     CoreOutside,
     NoBudget,
     ComputingOutside,
@@ -141,7 +192,7 @@ pub enum Refusal {
     LengthWrong,
     BitsNotZero,
     ListedBudgetZero,
-    TooManyWorkloads,
+    WorkloadListsWrong,
 }
 
 impl Refusal {
@@ -151,10 +202,10 @@ impl Refusal {
     {
         match self {
             Refusal::CoresOutside => 1,
-            Refusal::SlotsPerPeriodOutside => 2,
-            Refusal::IntervalsOutside => 3,
+            Refusal::PerPeriodOutside => 2,
+            Refusal::IntervalsOrBudgetsOutside => 3,
             Refusal::PeriodsOutside => 4,
-            Refusal::BudgetsNotWhole => 5,
+            Refusal::SumNotPerPeriod => 5,
             Refusal::CoreOutside => 6,
             Refusal::NoBudget => 7,
             Refusal::ComputingOutside => 8,
@@ -168,7 +219,7 @@ impl Refusal {
             Refusal::LengthWrong => 22,
             Refusal::BitsNotZero => 23,
             Refusal::ListedBudgetZero => 24,
-            Refusal::TooManyWorkloads => 25,
+            Refusal::WorkloadListsWrong => 25,
         }
     }
 }

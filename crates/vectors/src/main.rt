@@ -1,29 +1,22 @@
 // Answers a stream of questions, one line of text for each, as the second program of tests/ does.
 //
 // A record of standard input is its kind, the length of its body in two bytes, and its body. A record of no known kind, with a body
-// that is no question of its kind, or with more numbers than a fixed place holds (places.rt) is answered `malformed`. A stream that
+// that is no question of its kind, or with more numbers than a fixed place holds (`vectors_text`, places.rt) is answered `malformed`. A stream that
 // ends inside a record ends the answers.
 ghost use mathlib.Core.Path.{_≡_};
 ghost use Prim.Native.Nat.{_≤_};
 ghost use lib.ListN.{length};
-use body::two_at;
-use curves::corners_question;
-use curves::raw_question;
-use files::read_question;
-use files::write_question;
-use line::malformed;
-use line::put_byte;
-use places::front_bytes;
-use places::lend_bytes;
-use plans::placement_question;
-use plans::span_question;
-
-mod body; // body.rt: numbers out of a record's body
-mod curves; // curves.rt: raw stall and corners
-mod files; // files.rt: plan files read and written
-mod line; // line.rt: the text of an answer
-mod places; // places.rt: fixed places
-mod plans; // plans.rt: placement and span
+use vectors_files::read_question;
+use vectors_files::write_question;
+use vectors_plans::curves::corners_question;
+use vectors_plans::curves::raw_question;
+use vectors_plans::plans::placement_question;
+use vectors_plans::plans::span_question;
+use vectors_text::body::two_at;
+use vectors_text::line::malformed;
+use vectors_text::line::put_byte;
+use vectors_text::places::front_bytes;
+use vectors_text::places::lend_bytes;
 
 // Room for the longest body.
 const BODY: usize = 65_535;

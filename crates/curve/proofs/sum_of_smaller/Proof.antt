@@ -4,8 +4,8 @@ use native.Mathlib.Omega.{arith}
 use lib.ListN.{length, drop}
 use borrow.Author.Needs.{needs}
 use Rattle.meaning.specs.Curve.{sumOfSmaller}
-use Rattle.laws.specs.Raw.{smaller-le-sum}
-use Rattle.curve.specs.Rows.{smaller-from, smaller-none}
+use Rattle.curve_laws.specs.RawStall.{smaller-le-sum}
+use Rattle.curve.specs.Rows.{smaller-from, smaller-past-end}
 use Rattle.curve.proofs.sum_of_smaller.Statement.{statement}
 use Rattle.curve.proofs.sum_of_smaller.Tie as tie
 
@@ -52,7 +52,7 @@ loop-again c =
 returns : tie.Need-returns Inv-loop μ-loop
 returns c =
     let args = c .before .before .before .args in
-    omega (arith, smaller-none (args .rate .0) (c .before .loop .i) (args .row .now) (search needs))
+    omega (arith, smaller-past-end (args .rate .0) (c .before .loop .i) (args .row .now) (search needs))
 
 pub sum-of-smaller-spec : {M : Type 1} → statement M
 sum-of-smaller-spec =

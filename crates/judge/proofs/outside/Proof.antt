@@ -1,6 +1,6 @@
 use native.Mathlib.Omega.{arith}
 use borrow.Author.Tests.{le-leb}
-use Rattle.laws.specs.Judging.{ltb-not-leb}
+use Rattle.plan_laws.specs.RefusalOrder.{ltb-not-leb}
 use Rattle.judge.proofs.outside.Statement.{statement}
 use Rattle.judge.proofs.outside.Tie as tie
 

@@ -4,22 +4,24 @@ use denote.Ref.{now}
 use borrow.Author.Needs.{needs}
 use Rattle.meaning.specs.Plan.{Plan}
 use Rattle.meaning.specs.Refusals.{outside, planRefusal, coreRefusal}
-use Rattle.laws.specs.Judging.{inside, sound-plan}
+use Rattle.plan_laws.specs.RefusalOrder.{inside}
+use Rattle.plan_laws.specs.SoundPlan.{sound-plan}
 use Rattle.judge.specs.declared.Judgement.{Judgement}
-use Rattle.judge.specs.Judged.{planOf, PlanJudged, refused-before}
+use Rattle.units.specs.Given.{planOf}
+use Rattle.judge.specs.Judged.{PlanJudged, refused-before}
 use Rattle.judge.proofs.plan_and_core.Statement.{statement}
 use Rattle.judge.proofs.plan_and_core.Tie as tie
 
 abbrev planAt : tie.Start → Plan
-planAt c = planOf (c .args .cores) (c .args .each .0) (now (c .args .lengths)) (now (c .args .budgets))
+planAt c = planOf (c .args .head) (now (c .args .lengths)) (now (c .args .budgets))
 
 sound : (c : tie.After-found)
     → PlanJudged (planAt (c .before .before .before .before .before)) (Judgement.Sound (c .found .given .0 .0))
 sound c = rw (c .found .given .1) at (c .before .before .plan .ensures)
 
 within : (c : tie.Else1)
-    → let a = c .before .before .before .before .before .before .before .before .args in
-    outside 1 (a .cores) (a .core) ≡ false
+    → let a = c .before .before .before .before .before .before .before .before .before .args in
+    outside 1 (a .head .cores) (a .core) ≡ false
 within c = sym (c .before .outside .ensures) ∙ c .if1 .left
 
 plan-requires : tie.Need-plan-requires
@@ -37,16 +39,19 @@ returns c =
     let number = planRefusal (planAt (c .before .before .before .before .before)) in
     rw told (refused-before {a = number} (c .enum-told .given .0 .0) _ (rw told at (c .before .before .plan .ensures)))
 
+cast-outside : tie.Need-cast-outside
+cast-outside c = search needs
+
 outside-requires : tie.Need-outside-requires
 outside-requires c κs = search needs
 
 returns-2 : tie.Need-returns-2
 unfolding coreRefusal
-returns-2 c = rw (sound (c .before .before .before) .0, sym (c .before .outside .ensures) ∙ c .if1 .taken)
+returns-2 c = rw (sound (c .before .before .before .before) .0, sym (c .before .outside .ensures) ∙ c .if1 .taken)
 
 without-budget-requires : tie.Need-without-budget-requires
 without-budget-requires c κs =
-    let s = sound-plan _ (sound (c .before .before .before) .0) in
+    let s = sound-plan _ (sound (c .before .before .before .before) .0) in
     let core = inside 1 _ _ (within c) in
     (s .count, core .0, core .1)
 
@@ -54,13 +59,13 @@ returns-3 : tie.Need-returns-3
 unfolding coreRefusal
 returns-3 c =
     let core = c .before .before in
-    rw (sound (core .before .before .before) .0, within core, sym (c .before .without-budget .ensures) ∙ c .if2 .taken)
+    rw (sound (core .before .before .before .before) .0, within core, sym (c .before .without-budget .ensures) ∙ c .if2 .taken)
 
 returns-4 : tie.Need-returns-4
 unfolding coreRefusal
 returns-4 c =
     let core = c .before .before in
-    let here = sound (core .before .before .before) in
+    let here = sound (core .before .before .before .before) in
     (rw (here .0, within core, sym (c .before .without-budget .ensures) ∙ c .if2 .left), here .1)
 
 pub plan-and-core-spec : {M : Type 1} → statement M
@@ -71,6 +76,7 @@ plan-and-core-spec =
     enum-known-found
     enum-told
     returns
+    cast-outside
     outside-requires
     returns-2
     without-budget-requires

@@ -5,7 +5,7 @@ use denote.Ref.{now}
 use lib.ListN.{length, drop, drop-of-length-le}
 use borrow.Author.Needs.{needs}
 use Rattle.meaning.specs.Plan.{sumOf}
-use Rattle.laws.specs.Judging.{sum-from}
+use Rattle.number_laws.specs.Lists.{sum-from}
 use Rattle.judge.proofs.sum.Statement.{statement}
 use Rattle.judge.proofs.sum.Tie as tie
 

@@ -10,36 +10,36 @@ use borrow.Author.Needs.{needs}
 use borrow.Author.Tests.{eq-eqb, ne-eqb}
 use Rattle.meaning.specs.Plan.{rowsOf}
 use Rattle.meaning.specs.Refusals.{withoutBudget}
-use Rattle.laws.specs.Judging.{rows-count, without-from}
+use Rattle.plan_laws.specs.SoundPlan.{rows-count, without-from}
 use Rattle.judge.proofs.without_budget.Statement.{statement}
 use Rattle.judge.proofs.without_budget.Tie as tie
 
 abbrev Inv-loop : tie.InvT-loop
-Inv-loop cores lengths budgets core m count at i₀ i =
+Inv-loop lengths budgets core m count at i₀ i =
     (i ≤ length lengths)
-    × (withoutBudget core (rowsOf cores lengths budgets) ≡ withoutBudget core (drop i (rowsOf cores lengths budgets)))
+    × (withoutBudget core (rowsOf m lengths budgets) ≡ withoutBudget core (drop i (rowsOf m lengths budgets)))
 
 abbrev μ-loop : tie.MeasureT-loop
-μ-loop cores lengths budgets core m count at i₀ i = length lengths - i
+μ-loop lengths budgets core m count at i₀ i = length lengths - i
 
 in-row : (c : tie.In-loop Inv-loop μ-loop)
-    → suc (c .before .loop .i) * c .before .before .args .cores ≤ length (now (c .before .before .args .budgets))
+    → suc (c .before .loop .i) * c .before .before .before .args .head .cores ≤ length (now (c .before .before .before .args .budgets))
 in-row c =
-    let start = c .before .before in
-    omega (arith, mul-le-mul-right (start .args .cores) (c .loop-test .taken), start .pre .0)
+    let start = c .before .before .before in
+    omega (arith, mul-le-mul-right (start .args .head .cores) (c .loop-test .taken), start .pre .0)
 
 next : (c : tie.In-loop Inv-loop μ-loop)
     → let i = c .before .loop .i in
-    let a = c .before .before .args in
-    let rows = rowsOf (a .cores) (now (a .lengths)) (now (a .budgets)) in
+    let a = c .before .before .before .args in
+    let rows = rowsOf (a .head .cores) (now (a .lengths)) (now (a .budgets)) in
     withoutBudget (a .core) rows
-    ≡ (eqb (getD (now (a .budgets)) (i * a .cores + (a .core - 1)) 0) 0 || withoutBudget (a .core) (drop (i + 1) rows))
+    ≡ (eqb (getD (now (a .budgets)) (i * a .head .cores + (a .core - 1)) 0) 0 || withoutBudget (a .core) (drop (i + 1) rows))
 next c =
-    let start = c .before .before in
+    let start = c .before .before .before in
     let a = start .args in
     c .before .loop .inv .1
     ∙ without-from
-    (a .cores)
+    (a .head .cores)
     (now (a .lengths))
     (now (a .budgets))
     (c .before .loop .i)
@@ -47,6 +47,9 @@ next c =
     (a .core)
     (start .pre .1)
     (start .pre .2)
+
+cast-m : tie.Need-cast-m Inv-loop μ-loop
+cast-m c = search needs
 
 sub-at : tie.Need-sub-at Inv-loop μ-loop
 sub-at c = search needs
@@ -81,9 +84,9 @@ loop-again c = (omega arith, rw (ne-eqb _ _ (c .if1 .left)) at (next (c .before 
 returns-2 : tie.Need-returns-2 Inv-loop μ-loop
 unfolding withoutBudget
 returns-2 c =
-    let a = c .before .before .args in
-    let all = rowsOf (a .cores) (now (a .lengths)) (now (a .budgets)) in
-    let end : length all ≤ c .before .loop .i = rw (rows-count (a .cores) (now (a .lengths)) (now (a .budgets))) (omega arith) in
+    let a = c .before .before .before .args in
+    let all = rowsOf (a .head .cores) (now (a .lengths)) (now (a .budgets)) in
+    let end : length all ≤ c .before .loop .i = rw (rows-count (a .head .cores) (now (a .lengths)) (now (a .budgets))) (omega arith) in
     rw (c .before .loop .inv .1, drop-of-length-le all end, withoutBudget)
 
 pub without-budget-spec : {M : Type 1} → statement M
@@ -92,6 +95,7 @@ without-budget-spec =
     (tie.spec
     Inv-loop
     μ-loop
+    cast-m
     sub-at
     loop-holds
     mul-if1

@@ -4,7 +4,7 @@ use Prim.Native.Nat.{zero-le}
 use borrow.Author.Tests.{lt-leb}
 use Rattle.meaning.specs.Listing.{endLine}
 use Rattle.listing.specs.Promise.{room}
-use Rattle.listing.specs.Put.{put-line}
+use Rattle.listing.specs.Finished.{put-line}
 use Rattle.listing.proofs.end_line.Statement.{statement}
 use Rattle.listing.proofs.end_line.Tie as tie
 

@@ -4,8 +4,8 @@ use Prim.Native.Nat.{zero-le}
 use borrow.Author.Tests.{lt-leb}
 use Rattle.meaning.specs.Listing.{fileRefusedLine}
 use Rattle.listing.specs.Promise.{room}
-use Rattle.listing.specs.Put.{put-line}
-use Rattle.listing.specs.Number.{put-figure}
+use Rattle.listing.specs.Finished.{put-line}
+use Rattle.text.specs.Number.{put-figures}
 use Rattle.listing.proofs.file_refused_line.Statement.{statement}
 use Rattle.listing.proofs.file_refused_line.Tie as tie
 
@@ -43,7 +43,7 @@ returns-2 c =
     let offset = end .before .before .before .before in
     let refusal = offset .before .before .before .before .before in
     let figure = rw (refusal .before .number .ensures) at (refusal .put-figure .ensures .put) in
-    put-line (refusal .before .before .before .before .if1 .left) zero-le (put-figure figure (offset .put-figure2 .ensures)) (end .finish .ensures)
+    put-line (refusal .before .before .before .before .if1 .left) zero-le (put-figures figure (offset .put-figure2 .ensures)) (end .finish .ensures)
 
 pub file-refused-line-spec : {M : Type 1} → statement M
 file-refused-line-spec =

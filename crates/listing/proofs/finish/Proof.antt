@@ -2,7 +2,7 @@ use borrow.Author.Needs.{needs}
 use mathlib.Core.Path.{refl}
 use native.Mathlib.Omega.{arith}
 use denote.Ref.{now}
-use Rattle.listing.specs.Put.{put-one}
+use Rattle.text.specs.Put.{put-one}
 use Rattle.listing.proofs.finish.Statement.{statement}
 use Rattle.listing.proofs.finish.Tie as tie
 

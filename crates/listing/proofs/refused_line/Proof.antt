@@ -4,8 +4,8 @@ use Prim.Native.Nat.{zero-le}
 use borrow.Author.Tests.{lt-leb}
 use Rattle.meaning.specs.Listing.{refusedLine}
 use Rattle.listing.specs.Promise.{room}
-use Rattle.listing.specs.Put.{put-line}
-use Rattle.listing.specs.Number.{put-figure}
+use Rattle.listing.specs.Finished.{put-line}
+use Rattle.text.specs.Number.{put-figures}
 use Rattle.listing.proofs.refused_line.Statement.{statement}
 use Rattle.listing.proofs.refused_line.Tie as tie
 
@@ -40,7 +40,7 @@ returns-2 c =
     let refusal = end .before .before .before .before in
     let number = refusal .before .before .before .before .before .before in
     let figure = rw (refusal .before .number .ensures) at (refusal .put-figure .ensures) in
-    put-line (number .before .before .if1 .left) zero-le (put-figure (number .put-number .ensures .0) figure) (end .finish .ensures)
+    put-line (number .before .before .if1 .left) zero-le (put-figures (number .put-number .ensures .0) figure) (end .finish .ensures)
 
 pub refused-line-spec : {M : Type 1} → statement M
 refused-line-spec =

@@ -5,7 +5,7 @@ use denote.Ref.{now}
 use native.Mathlib.Omega.{arith}
 use lib.ListN.{length, drop, drop-of-length-le}
 use Rattle.meaning.specs.Plan.{sumOf}
-use Rattle.laws.specs.Judging.{sum-from}
+use Rattle.number_laws.specs.Lists.{sum-from}
 use Rattle.listing.proofs.total.Statement.{statement}
 use Rattle.listing.proofs.total.Tie as tie
 

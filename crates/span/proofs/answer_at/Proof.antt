@@ -7,15 +7,16 @@ use denote.Ref.{now}
 use lib.ListN.{length, drop}
 use borrow.Author.Needs.{needs}
 use Rattle.units.specs.Units.{slotsOf}
-use Rattle.stall.specs.Packed.{between}
-use Rattle.span.specs.Makers.{SlotsMade, slots-made}
-use Rattle.span.specs.Ordered.{stallAt, placedAt, stall-walked, placed-filled}
+use Rattle.segments.specs.Packed.{between}
+use Rattle.judge.specs.Makers.{SlotsMade, slots-made}
+use Rattle.shares.specs.Shares.{sharesGiven}
+use Rattle.search.specs.Walked.{stallWith, placedWith, stall-walked, placed-filled}
 use Rattle.span.proofs.answer_at.Statement.{statement}
 use Rattle.span.proofs.answer_at.Tie as tie
 
 -- the stall at W
 abbrev stallHere : tie.Start → ℕ
-stallHere c = stallAt (now (c .args .lengths)) (between 0 (c .args .count) (now (c .args .picks))) (c .args .requests .0) (c .args .periods .0)
+stallHere c = stallWith (sharesGiven (now (c .args .lengths)) (c .args .periods .0)) (between 0 (c .args .count) (now (c .args .picks))) (c .args .requests .0)
 
 abbrev startOf : tie.After-shares-of → tie.Start
 startOf c = c .before .before .before
@@ -26,7 +27,7 @@ made c =
     let shared = c .before .before .before .before .before .before .before in
     let args = startOf shared .args in
     let walked =
-    stall-walked (now (args .lengths)) (between 0 (args .count) (now (args .picks))) (args .requests .0) (args .periods .0)
+    stall-walked (sharesGiven (now (args .lengths)) (args .periods .0)) (between 0 (args .count) (now (args .picks))) (args .requests .0)
     (shared .shares-of .result) (shared .shares-of .ensures)
     in
     subst (SlotsMade (stallHere (startOf shared))) (sym (c .greatest .ensures ∙ ap slotsOf walked)) (slots-made (stallHere (startOf shared)))
@@ -35,14 +36,14 @@ made c =
 placed : (c : tie.After-place)
     → let args = startOf (c .before .before .before) .args in
     c .place .last .1 .1 .1 .1 .1 .0
-    ≡ placedAt (now (args .lengths)) (between 0 (args .count) (now (args .picks))) (args .requests .0) (args .periods .0)
+    ≡ placedWith (sharesGiven (now (args .lengths)) (args .periods .0)) (length (now (args .lengths))) (between 0 (args .count) (now (args .picks))) (args .requests .0)
     ++ drop (length (now (args .lengths))) (now (args .place))
 placed c =
     let shared = c .before .before .before in
     let args = startOf shared .args in
     let filled =
-    placed-filled (now (args .lengths)) (between 0 (args .count) (now (args .picks))) (args .requests .0) (args .periods .0)
-    (shared .shares-of .result) (shared .shares-of .ensures)
+    placed-filled (sharesGiven (now (args .lengths)) (args .periods .0)) (between 0 (args .count) (now (args .picks))) (args .requests .0)
+    (shared .shares-of .result) (shared .shares-of .ensures) (length (now (args .lengths)))
     in
     c .place .ensures ∙ ap (λ (xs : List ℕ). xs ++ drop (length (now (args .lengths))) (now (args .place))) filled
 

@@ -4,15 +4,15 @@ use lib.ListN.{length}
 use borrow.Author.Needs.{needs}
 use Rattle.meaning.specs.Plan.{Plan}
 use Rattle.meaning.specs.Refusals.{placementRefusal}
-use Rattle.laws.specs.Questions.{SoundPlacement, sound-placement}
-use Rattle.judge.specs.Judged.{planOf}
+use Rattle.placement_laws.specs.PlacementQuestion.{SoundPlacement, sound-placement}
+use Rattle.units.specs.Given.{planOf}
 use Rattle.span.specs.Ordered.{order-walkable, order-fits}
 use Rattle.span.specs.Answered.{placement-refused, placement-answered}
 use Rattle.span.proofs.placement.Statement.{statement}
 use Rattle.span.proofs.placement.Tie as tie
 
 abbrev planAt : tie.Start → Plan
-planAt c = planOf (c .args .cores) (c .args .each .0) (now (c .args .lengths)) (now (c .args .budgets))
+planAt c = planOf (c .args .head) (now (c .args .lengths)) (now (c .args .budgets))
 
 abbrev startOf : tie.After-judged-placement → tie.Start
 startOf c = c .before .before .before .before
@@ -60,7 +60,7 @@ answer-at-requires c κs =
       order-walkable (planAt start) (s .plan) picks count (start .args .core) (call .order-of .ensures),
       s .enoughRoom,
       order-fits (planAt start) (s .plan) picks count (start .args .core) (s .budgets) (call .order-of .ensures) (start .args .requests .0)
-          (start .args .periods .0),
+          (start .args .periods .0) (s .inPlan),
     )
 
 same-length : tie.Need-same-length

@@ -1,22 +1,26 @@
 use mathlib.Core.Path.{_≡_}
+use native.Mathlib.Nat.{le-trans}
 use denote.Ref.{now}
 use lib.ListN.{length}
 use borrow.Author.Needs.{needs}
 use Rattle.meaning.specs.Plan.{Plan, Workload}
 use Rattle.meaning.specs.Refusals.{spanRefusal}
-use Rattle.laws.specs.Questions.{SoundSpan, sound-span}
-use Rattle.judge.specs.Judged.{planOf}
-use Rattle.span.specs.Figures.{workloadOf}
+use Rattle.span_laws.specs.SpanQuestion.{SoundSpan, sound-span}
+use Rattle.units.specs.Given.{planOf, workloadOf}
+use Rattle.meaning.specs.Placement.{sharesAt}
+use Rattle.segments.specs.Packed.{between}
+use Rattle.search.specs.Searched.{Searched}
+use Rattle.search.specs.declared.Ending.{Ending}
 use Rattle.span.specs.Ordered.{order-walkable, order-fits}
 use Rattle.span.specs.Answered.{span-refused, span-terms, span-none, span-found}
 use Rattle.span.proofs.span.Statement.{statement}
 use Rattle.span.proofs.span.Tie as tie
 
 abbrev planAt : tie.Start → Plan
-planAt c = planOf (c .args .cores) (c .args .each .0) (now (c .args .lengths)) (now (c .args .budgets))
+planAt c = planOf (c .args .head) (now (c .args .lengths)) (now (c .args .budgets))
 
 abbrev workloadAt : tie.Start → Workload
-workloadAt c = workloadOf (c .args .core) (c .args .computing .0) (c .args .requests .0) (c .args .horizon .0)
+workloadAt c = workloadOf (c .args .workload)
 
 abbrev startOf : tie.After-judged-span → tie.Start
 startOf c = c .before .before .before .before
@@ -62,7 +66,7 @@ search-requires c κs =
     let count = call .order-of .result .count in (
       s .plan .someSlots,
       s .plan .fewSlots,
-      order-walkable (planAt start) (s .plan) picks count (start .args .core) (call .order-of .ensures),
+      order-walkable (planAt start) (s .plan) picks count (start .args .workload .core) (call .order-of .ensures),
       span-terms (planAt start) (workloadAt start) (now (start .args .place)) (judged (call .before)) picks count (call .order-of .ensures),
     )
 
@@ -79,11 +83,14 @@ answer-at-requires c κs =
     let start = startOf (call .before .before .before) in
     let s = sound (call .before) in
     let picks = call .order-of .result .picks in
-    let count = call .order-of .result .count in (
-      order-walkable (planAt start) (s .plan) picks count (start .args .core) (call .order-of .ensures),
+    let count = call .order-of .result .count in
+    let ending = Ending.Span (found .span .given .0 .0) (found .span .given .0 .1 .0) in
+    let ended : Searched (planAt start .perPeriod) (sharesAt (planAt start)) (between 0 count picks) (workloadAt start) ending =
+    rw (found .span .given .1) at (found .before .before .search .ensures) in (
+      order-walkable (planAt start) (s .plan) picks count (start .args .workload .core) (call .order-of .ensures),
       s .enoughRoom,
-      order-fits (planAt start) (s .plan) picks count (start .args .core) (s .budgets) (call .order-of .ensures) (start .args .requests .0)
-          (found .span .given .0 .0 .0),
+      order-fits (planAt start) (s .plan) picks count (start .args .workload .core) (s .budgets) (call .order-of .ensures) (start .args .workload .requests .0)
+          (found .span .given .0 .0 .0) (le-trans (ended .2) (s .inPlan)),
     )
 
 returns-2 : tie.Need-returns-2

@@ -3,7 +3,7 @@ use denote.Ref.{now}
 use lib.Seq.{length-take-le}
 use borrow.Author.Needs.{needs}
 use Rattle.listing.specs.declared.Line.{Line}
-use Rattle.spans.specs.Lines.{Within}
+use Rattle.spans.specs.Printed.{Within}
 use Rattle.spans.proofs.print.Statement.{statement}
 use Rattle.spans.proofs.print.Tie as tie
 

@@ -1,13 +1,11 @@
-use mathlib.Core.Path.{_≡_, sym, ap, subst, _∙_}
+use mathlib.Core.Path.{sym, ap, subst, _∙_}
 use Prim.Native.Nat.{ℕ, _+_, _-_, _*_, _≤_}
 use native.Mathlib.Nat.{mul-le-mul}
 use native.Mathlib.Omega.{arith}
 use denote.Ref.{now}
-use lib.ListN.{getD}
 use Rattle.units.specs.Units.{slotsOf}
-use Rattle.laws.specs.Filling.{Pick}
-use Rattle.stall.specs.Packed.{pickOf, shareAt}
-use Rattle.stall.specs.Walks.{Walked, every-at, part-fits, walked-none, walked-more, walked-stop, walked-all}
+use Rattle.placement_laws.specs.Filling.{Pick}
+use Rattle.stall.specs.Walks.{shareAt, Walked, every-at, part-fits, walked-none, walked-more, walked-stop, walked-all}
 use borrow.Author.Needs.{needs}
 use Rattle.stall.proofs.greatest.Statement.{statement}
 use Rattle.stall.proofs.greatest.Tie as tie
@@ -32,17 +30,8 @@ mul-segment c = search needs
 element-copy-out-segment : tie.Need-element-copy-out-segment Inv-loop μ-loop
 element-copy-out-segment c = search needs
 
-interval-of-requires : tie.Need-interval-of-requires Inv-loop μ-loop
-interval-of-requires c κs = search needs
-
-mul-wide : tie.Need-mul-wide Inv-loop μ-loop
-mul-wide c = search needs
-
-element-copy-out-wide : tie.Need-element-copy-out-wide Inv-loop μ-loop
-element-copy-out-wide c = search needs
-
-wide-requires : tie.Need-wide-requires Inv-loop μ-loop
-wide-requires c κs = search needs
+share-of-requires : tie.Need-share-of-requires Inv-loop μ-loop
+share-of-requires c κs = search needs
 
 rise-of-requires : tie.Need-rise-of-requires Inv-loop μ-loop
 rise-of-requires c κs = search needs
@@ -50,21 +39,11 @@ rise-of-requires c κs = search needs
 run-of-requires : tie.Need-run-of-requires Inv-loop μ-loop
 run-of-requires c κs = search needs
 
--- the share that is read is that of the next segment's interval
-share-is : (c : tie.After-run-of Inv-loop μ-loop)
-    → let a = c .before .before .before .before .before .before .before .before .before .args in
-    let k = c .before .before .before .before .before .before .before .loop .k in
-    c .before .before .wide .result ≡ shareAt (now (a .shares)) (pickOf (getD (now (a .picks)) k 0) .interval)
-share-is c =
-    let a = c .before .before .before .before .before .before .before .before .before .args in
-    c .before .before .wide .ensures .0
-    ∙ ap (shareAt (now (a .shares))) (c .before .before .before .before .interval-of .ensures .0)
-
 -- the next run is at least 1
 some-run : (c : tie.After-run-of Inv-loop μ-loop) → 1 ≤ c .run-of .result .0
 some-run c =
-    let start = c .before .before .before .before .before .before .before .before .before in
-    let at = c .before .before .before .before .before .before .before .loop in
+    let start = c .before .before .before .before .before .before .before in
+    let at = c .before .before .before .before .before .loop in
     subst
     (λ (n : ℕ). 1 ≤ n)
     (sym (c .run-of .ensures .0))
@@ -74,17 +53,17 @@ some-run c =
     (start .args .count)
     (at .k)
     (start .pre .1)
-    (c .before .before .before .before .before .before .loop-test .taken))
+    (c .before .before .before .before .loop-test .taken))
 
 -- the stall of the whole next segment
-height : (c : tie.After-run-of Inv-loop μ-loop) → c .before .before .wide .result * c .before .rise-of .result .0 ≤ 281_470_681_677_825
-height c = mul-le-mul (c .before .before .wide .ensures .1) (c .before .rise-of .ensures .1)
+height : (c : tie.After-run-of Inv-loop μ-loop) → c .before .before .share-of .result * c .before .rise-of .result .0 ≤ 281_470_681_677_825
+height c = mul-le-mul (c .before .before .share-of .ensures .1) (c .before .rise-of .ensures .1)
 
 cast-room : tie.Need-cast-room Inv-loop μ-loop
 cast-room c = search needs
 
 mul-room : tie.Need-mul-room Inv-loop μ-loop
-mul-room c = omega (arith, mul-le-mul (c .before .before .before .wide .ensures .1) (c .before .run-of .ensures .1))
+mul-room c = omega (arith, mul-le-mul (c .before .before .before .share-of .ensures .1) (c .before .run-of .ensures .1))
 
 cast-last : tie.Need-cast-last Inv-loop μ-loop
 cast-last c = search needs
@@ -95,7 +74,7 @@ part-requires c κs = some-run (c .before .before)
 add-checked : tie.Need-add-checked Inv-loop μ-loop
 add-checked c =
     let read = c .before .before .before in
-    let at = read .before .before .before .before .before .before .before .loop in
+    let at = read .before .before .before .before .before .loop in
     let most = part-fits _ (at .left) (read .before .rise-of .result .0) _ (some-run read) (c .before .if1 .taken) in
     omega (arith, c .part .ensures, most, height read)
 
@@ -105,13 +84,14 @@ checked-requires c κs = search needs
 returns : tie.Need-returns Inv-loop μ-loop
 returns c =
     let read = c .before .before .before .before in
-    let at = read .before .before .before .before .before .before .before .loop in
+    let at = read .before .before .before .before .before .loop in
+    let share = read .before .before .share-of .ensures .0 in
     let runs = read .run-of .ensures .0 in
     let stop =
     walked-stop (at .inv .0)
-    (read .before .before .before .before .before .before .loop-test .taken)
+    (read .before .before .before .before .loop-test .taken)
     (rw runs at (some-run read))
-    (rw (share-is read, runs) at (c .before .before .if1 .taken)) in
+    (rw (share, runs) at (c .before .before .if1 .taken)) in
     c .checked .ensures
     ∙ ap slotsOf
     (rw (read .before .rise-of .ensures .0, runs) at (ap (λ (n : ℕ). at .whole + n) (c .before .part .ensures))
@@ -138,15 +118,16 @@ loop-less c = search needs
 loop-again : tie.Need-loop-again Inv-loop μ-loop
 loop-again c =
     let read = c .before .before .before in
-    let at = read .before .before .before .before .before .before .before .loop in
+    let at = read .before .before .before .before .before .loop in
     let rises = read .before .rise-of .ensures in
+    let share = read .before .before .share-of .ensures .0 in
     let runs = read .run-of .ensures .0 in (
-      rw (share-is read, rises .0, runs)
+      rw (share, rises .0, runs)
           (walked-more (at .inv .0)
-          (read .before .before .before .before .before .before .loop-test .taken)
-          (rw (share-is read) at (read .before .before .wide .ensures .1))
+          (read .before .before .before .before .loop-test .taken)
+          (rw (share) at (read .before .before .share-of .ensures .1))
           (rw (rises .0) at (rises .1))
-          (rw (share-is read, runs) at (c .before .if1 .left))),
+          (rw (share, runs) at (c .before .if1 .left))),
       at .inv .1,
     )
 
@@ -166,10 +147,7 @@ greatest-spec =
     loop-holds
     mul-segment
     element-copy-out-segment
-    interval-of-requires
-    mul-wide
-    element-copy-out-wide
-    wide-requires
+    share-of-requires
     rise-of-requires
     run-of-requires
     cast-room

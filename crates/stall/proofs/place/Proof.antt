@@ -1,12 +1,12 @@
-use mathlib.Core.Path.{_≡_, refl, ap, _∙_}
+use mathlib.Core.Path.{_≡_, refl, _∙_}
 use Prim.Native.Nat.{ℕ, _+_, _-_, _*_, _≤_, _<_}
 use native.Mathlib.Nat.{le-refl, le-of-lt, mul-le-mul}
 use native.Mathlib.Omega.{arith}
 use denote.Ref.{now}
 use lib.ListN.{length, getD, drop}
-use Rattle.laws.specs.Filling.{Pick}
-use Rattle.stall.specs.Packed.{pickOf, shareAt}
-use Rattle.stall.specs.Walks.{every-at}
+use Rattle.placement_laws.specs.Filling.{Pick}
+use Rattle.segments.specs.Packed.{pickOf}
+use Rattle.stall.specs.Walks.{shareAt, every-at}
 use Rattle.stall.specs.Fills.{Filling, after-zeros, filling-none, filling-more, filling-stop, filling-all}
 use borrow.Author.Needs.{needs}
 use Rattle.stall.proofs.place.Statement.{statement}
@@ -50,35 +50,19 @@ element-copy-out-segment c = search needs
 interval-of-requires : tie.Need-interval-of-requires Inv-loop μ-loop
 interval-of-requires c κs = search needs
 
-mul-wide : tie.Need-mul-wide Inv-loop μ-loop
-mul-wide c = search needs
-
-element-copy-out-wide : tie.Need-element-copy-out-wide Inv-loop μ-loop
-element-copy-out-wide c = search needs
-
-wide-requires : tie.Need-wide-requires Inv-loop μ-loop
-wide-requires c κs = search needs
+share-of-requires : tie.Need-share-of-requires Inv-loop μ-loop
+share-of-requires c κs = search needs
 
 run-of-requires : tie.Need-run-of-requires Inv-loop μ-loop
 run-of-requires c κs = search needs
 
--- the share that is read is that of the next segment's interval
-share-is : (c : tie.After-run-of Inv-loop μ-loop)
-    → let at = c .before .before .before .before .before .before in
-    let a = at .before .before .before .before .before .before .before .args in
-    c .before .wide .result ≡ shareAt (now (a .shares)) (pickOf (getD (now (a .picks)) (at .loop .k) 0) .interval)
-share-is c =
-    let a = c .before .before .before .before .before .before .before .before .before .before .before .before .before .args in
-    c .before .wide .ensures .0
-    ∙ ap (shareAt (now (a .shares))) (c .before .before .before .interval-of .ensures .0)
-
 -- the next segment's interval is one of those that get requests
 inside : (c : tie.After-run-of Inv-loop μ-loop)
-    → let at = c .before .before .before .before .before .before in
+    → let at = c .before .before .before .before .before in
     let a = at .before .before .before .before .before .before .before .args in
     pickOf (getD (now (a .picks)) (at .loop .k) 0) .interval < a .intervals
 inside c =
-    let at = c .before .before .before .before .before .before in
+    let at = c .before .before .before .before .before in
     let start = at .before .before .before .before .before .before .before in
     every-at
     (λ (s : Pick). s .interval < start .args .intervals)
@@ -86,24 +70,24 @@ inside c =
     (start .args .count)
     (at .loop .k)
     (start .pre .1)
-    (c .before .before .before .before .before .loop-test .taken)
+    (c .before .before .before .before .loop-test .taken)
 
 -- there is room for so many requests more, of those that are left
 granted : (c : tie.After-run-of Inv-loop μ-loop) (more : ℕ)
-    → let at = c .before .before .before .before .before .before .loop in
-    let i = c .before .before .before .interval-of .result in
+    → let at = c .before .before .before .before .before .loop in
+    let i = c .before .before .interval-of .result in
     more ≤ at .left
     → (i < length (at .placement)) × (getD (at .placement) i 0 + more ≤ 4_294_967_295)
 granted c more most =
-    let at = c .before .before .before .before .before .before .loop in
-    rw (c .before .before .before .interval-of .ensures .0)
+    let at = c .before .before .before .before .before .loop in
+    rw (c .before .before .interval-of .ensures .0)
     (omega (arith, inside c, at .inv .0 .fits), omega (arith, at .inv .0 .room _ (inside c), at .inv .1, most))
 
 cast-most : tie.Need-cast-most Inv-loop μ-loop
 cast-most c = search needs
 
 mul-most : tie.Need-mul-most Inv-loop μ-loop
-mul-most c = omega (arith, mul-le-mul (c .before .before .wide .ensures .1) (c .before .run-of .ensures .1))
+mul-most c = omega (arith, mul-le-mul (c .before .before .share-of .ensures .1) (c .before .run-of .ensures .1))
 
 cast-last : tie.Need-cast-last Inv-loop μ-loop
 cast-last c = omega (arith, granted (c .before .before) _ (le-refl _) .1)
@@ -114,18 +98,17 @@ grant-requires c κs = granted (c .before .before .before) _ (le-refl _)
 same-length : tie.Need-same-length Inv-loop μ-loop
 same-length c =
     let grant = c .before .before in
-    let at = grant .before .before .before .before .before .before .before .before .before .before in
+    let at = grant .before .before .before .before .before .before .before .before .before in
     grant .grant .kept .0 ∙ at .loop .inv .2 ∙ at .before .before .before .before .clear .kept .0
 
 returns : tie.Need-returns Inv-loop μ-loop
 returns c =
     let grant = c .before .before in
     let read = grant .before .before .before .before in
-    let at = read .before .before .before .before .before .before in
-    let few : at .loop .left ≤ read .before .wide .result * read .run-of .result .0 = grant .before .before .if1 .taken in
-    grant .grant .ensures
-    ∙ rw (read .before .before .before .interval-of .ensures .0, ← cleared at)
-    (filling-stop (at .loop .inv .0) (read .before .before .before .before .before .loop-test .taken) (inside read) (rw (share-is read, read .run-of .ensures .0) at few))
+    let at = read .before .before .before .before .before in
+    let few : at .loop .left ≤ read .before .share-of .result * read .run-of .result .0 = grant .before .before .if1 .taken in
+    rw (grant .grant .ensures, read .before .before .interval-of .ensures .0, ← cleared at)
+    (filling-stop (at .loop .inv .0) (read .before .before .before .before .loop-test .taken) (inside read) (rw (read .before .share-of .ensures .0, read .run-of .ensures .0) at few))
 
 cast-filled : tie.Need-cast-filled Inv-loop μ-loop
 cast-filled c = omega (arith, granted (c .before .before) _ (le-of-lt (c .if1 .left)) .1)
@@ -146,10 +129,10 @@ loop-again : tie.Need-loop-again Inv-loop μ-loop
 loop-again c =
     let grant = c .before .before in
     let read = grant .before .before .before .before in
-    let at = read .before .before .before .before .before .before in
-    let left = rw (share-is read, read .run-of .ensures .0) at (grant .before .before .if1 .left) in (
-      rw (grant .grant2 .ensures, read .before .before .before .interval-of .ensures .0, share-is read, read .run-of .ensures .0)
-          (filling-more (at .loop .inv .0) (read .before .before .before .before .before .loop-test .taken) (inside read) left),
+    let at = read .before .before .before .before .before in
+    let left = rw (read .before .share-of .ensures .0, read .run-of .ensures .0) at (grant .before .before .if1 .left) in (
+      rw (grant .grant2 .ensures, read .before .before .interval-of .ensures .0, read .before .share-of .ensures .0, read .run-of .ensures .0)
+          (filling-more (at .loop .inv .0) (read .before .before .before .before .loop-test .taken) (inside read) left),
       at .loop .inv .1,
       grant .grant2 .kept .0 ∙ at .loop .inv .2,
     )
@@ -172,9 +155,7 @@ place-spec =
     mul-segment
     element-copy-out-segment
     interval-of-requires
-    mul-wide
-    element-copy-out-wide
-    wide-requires
+    share-of-requires
     run-of-requires
     cast-most
     mul-most

@@ -15,7 +15,7 @@ cast-checked-2 c = search needs
 mul-checked : tie.Need-mul-checked
 mul-checked c =
     let s : c .before .before .args .self .0 ≤ 65_535 = omega arith in
-    let e : c .before .before .args .each .0 ≤ 4_294_967_295 = omega arith in
+    let e : c .before .before .args .per-period .0 ≤ 4_294_967_295 = omega arith in
     record { fits = lt-of-le-of-lt (mul-le-mul s e) (lit< tt) }
 
 checked-requires : tie.Need-checked-requires

@@ -1,0 +1,12 @@
+pub mod EnvelopeConcave
+pub mod RawStall
+pub mod SegmentCount
+pub mod EnvelopeUnique
+pub mod CornerStack
+pub mod Price
+pub mod PassedCorners
+pub mod Certificate
+pub mod FilledToCorner
+pub mod StallConcave
+pub mod EnvelopeLeast
+pub mod CurveQuestions

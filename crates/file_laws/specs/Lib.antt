@@ -1,0 +1,13 @@
+pub mod Masks
+pub mod RecordBytes
+pub mod RowsByMask
+pub mod SoundRecords
+pub mod ReadingSteps
+pub mod SoundFiles
+pub mod RefusedFiles
+pub mod FileQuestions
+pub mod ReadIsWritten
+pub mod WrittenIsRead
+pub mod RoundTrips
+pub mod LongestFile
+pub mod FirstBytes

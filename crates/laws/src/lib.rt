@@ -1,1 +1,0 @@
-// Theorems over the definitions of `meaning`, with no code. They stand in specs/.

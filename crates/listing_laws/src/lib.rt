@@ -1,0 +1,1 @@
+// Theorems alone: they stand in specs/, and there is no code.

@@ -1,0 +1,85 @@
+-- Lists and sums: what is given for each index, what each member has, and the sum of a list.
+use mathlib.Core.Path.{_≡_, refl, ap, ap₂}
+use mathlib.Core.Logic.{⊎-elim}
+use mathlib.Core.List.{List, [], _∷_, _++_}
+use Prim.Native.Nat.{ℕ, zero, suc, _+_, _*_, _≤_, _<_}
+use native.Mathlib.Nat.{le-refl, le-of-suc-le, lt-irrefl, eq-or-lt-of-le, le-of-suc-le-suc}
+use native.Mathlib.Omega.{arith}
+use lib.ListN.{length, getD, drop}
+use Rattle.meaning.specs.Plan.{sumOf, All}
+use native.Mathlib.Numerals.{add-one}
+use lib.Seq.{drop-cons}
+
+-- f i, f (i + 1), and so on, n of them
+unfoldable pub listFrom : {A : Type 0} → ℕ → ℕ → (ℕ → A) → List A
+listFrom i zero f = []
+listFrom i (suc n) f = f i ∷ listFrom (suc i) n f
+
+-- their sum
+unfoldable pub sumFrom : ℕ → ℕ → (ℕ → ℕ) → ℕ
+sumFrom i zero f = 0
+sumFrom i (suc n) f = f i + sumFrom (suc i) n f
+
+-- as many as asked for
+pub list-length : {A : Type 0} (i n : ℕ) (f : ℕ → A) → length (listFrom i n f) ≡ n
+unfolding listFrom
+list-length i zero f = refl
+list-length i (suc n) f = ap suc (list-length (suc i) n f)
+
+-- the sum of the list
+pub sum-list : (i n : ℕ) (f : ℕ → ℕ) → sumOf (listFrom i n f) ≡ sumFrom i n f
+unfolding listFrom sumFrom
+sum-list i zero f = refl
+sum-list i (suc n) f = ap (λ (m : ℕ). f i + m) (sum-list (suc i) n f)
+
+-- what is the same at each index sums to the same
+sum-same : (i n : ℕ) (f g : ℕ → ℕ) → ((j : ℕ) → i ≤ j → f j ≡ g j) → sumFrom i n f ≡ sumFrom i n g
+unfolding sumFrom
+sum-same i zero f g same = refl
+sum-same i (suc n) f g same =
+    ap₂ _+_ (same i (le-refl i)) (sum-same (suc i) n f g (λ j h. same j (le-of-suc-le h)))
+
+-- a change by c at one index changes the sum by c
+pub sum-change : (i n k c : ℕ) (f g : ℕ → ℕ)
+    → i ≤ k
+    → k < i + n
+    → g k ≡ f k + c
+    → ((j : ℕ) → (j ≡ k → ⊥) → g j ≡ f j)
+    → sumFrom i n g ≡ sumFrom i n f + c
+unfolding sumFrom
+sum-change i zero k c f g from to here other = absurd (lt-irrefl i (omega (arith, from, to)))
+sum-change i (suc n) k c f g from to here other =
+    ⊎-elim
+    (λ e.
+    let later =
+    sum-same (suc i) n g f (λ j h. other j (λ same. lt-irrefl j (omega (arith, h, e, same)))) in
+    omega (arith, ap g e, ap f e, here, later))
+    (λ lt.
+    let later = sum-change (suc i) n k c f g lt (omega (arith, to)) here other in
+    let first = other i (λ same. lt-irrefl i (omega (arith, lt, same))) in
+    omega (arith, later, first))
+    (eq-or-lt-of-le from)
+
+-- a sum of two things with factors is the sum of their sums
+pub sum-linear : (i n p d : ℕ) (f g h : ℕ → ℕ)
+    → ((j : ℕ) → d * f j ≡ p * g j + h j)
+    → d * sumFrom i n f ≡ p * sumFrom i n g + sumFrom i n h
+unfolding sumFrom
+sum-linear i zero p d f g h each = omega arith
+sum-linear i (suc n) p d f g h each =
+    omega (arith, each i, sum-linear (suc i) n p d f g h each)
+
+-- so the member at an index has it
+pub all-at : {A : Type 0} (P : A → Type 0) (l : List A) (d : A) (i : ℕ) → All P l → i < length l → P (getD l i d)
+all-at P [] d i all h = absurd (omega arith)
+all-at P (a ∷ l) d zero all h = all .0
+all-at P (a ∷ l) d (suc i) all h = all-at P l d i (all .1) (le-of-suc-le-suc h)
+
+-- the sum from an index on is the number there and the sum after it
+pub sum-from : (l : List ℕ) (i : ℕ) → i < length l → sumOf (drop i l) ≡ getD l i 0 + sumOf (drop (i + 1) l)
+sum-from l i h = rw (add-one, drop-cons l i 0 h)
+
+-- the sum of two lists together
+pub sum-append : (xs ys : List ℕ) → sumOf (xs ++ ys) ≡ sumOf xs + sumOf ys
+sum-append [] ys = omega arith
+sum-append (x ∷ xs) ys = omega (arith, sum-append xs ys)

@@ -1,0 +1,4 @@
+pub mod Groups
+pub mod Merges
+pub mod Levels
+pub mod Orders

@@ -1,0 +1,11 @@
+pub mod Shares
+pub mod CertifiedPlacement
+pub mod Filling
+pub mod FillingCertified
+pub mod FillingAnswers
+pub mod OrderMerged
+pub mod StallUnique
+pub mod PlacementExists
+pub mod StallGrows
+pub mod PlacementQuestion
+pub mod PartsBehind

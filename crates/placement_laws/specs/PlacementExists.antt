@@ -1,0 +1,262 @@
+-- The answered placement for given shares, from an order of the segments of the plan's curves; and that there always is one.
+use mathlib.Core.Path.{_≡_, refl, sym, ap, _∙_, subst, fun-ext}
+use mathlib.Core.Logic.{_⊎_, inl, inr, ⊎-elim}
+use mathlib.Core.List.{List, [], _∷_}
+use Prim.Native.Nat.{ℕ, zero, suc, _+_, _-_, _*_, _≤_, _<_, zero-le}
+use native.Mathlib.Nat.{lt-of-lt-of-le, lt-irrefl, zero-add, add-zero, suc-inj}
+use native.Mathlib.Omega.{arith}
+use lib.ListN.{length, getD}
+use Rattle.meaning.specs.Fraction.{Fraction, _=ᶠ_, roundUp}
+use Rattle.meaning.specs.Plan.{Plan, sumOf, intervals, rows, budgetOf}
+use Rattle.meaning.specs.Curve.{Curve, raw, others, EnvelopeOf, Concave}
+use Rattle.meaning.specs.Placement.{Part, PartsOf, total, GreatestStall, AnsweredWith}
+use Rattle.number_laws.specs.Order.{le-or-lt}
+use Rattle.number_laws.specs.Fractions.{round-up-same}
+use Rattle.number_laws.specs.Lists.{listFrom, sumFrom, all-at}
+use Rattle.plan_laws.specs.SoundPlan.{SoundPlan, SoundCore, plan-whole}
+use Rattle.curve_laws.specs.EnvelopeConcave.{first-on}
+use Rattle.curve_laws.specs.RawStall.{raw-rises, raw-below, smaller-none}
+use Rattle.curve_laws.specs.CornerStack.{envelope-exists}
+use Rattle.placement_laws.specs.Filling.{Pick, Order, walk, fill}
+use Rattle.placement_laws.specs.FillingCertified.{stallOf}
+use Rattle.placement_laws.specs.FillingAnswers.{walkStall, filled-answered, filled-stall, filled-proper, walk-proper}
+use Rattle.placement_laws.specs.OrderMerged.{none, within, within-inside, within-after, orderTo, order-to}
+use Rattle.placement_laws.specs.StallUnique.{row-concave}
+
+step-index : (i j : ℕ) → i + suc j ≡ suc i + j
+step-index i j = omega arith
+
+-- parts that are given for each index
+parts-from : (perPeriod core i : ℕ) (ws : List ℕ) (rs : List (List ℕ)) (s : ℕ → Part)
+    → length ws ≡ length rs
+    → ((j : ℕ) → j < length rs → s (i + j) .share ≡ getD ws j 0)
+    → ((j : ℕ) → j < length rs → EnvelopeOf perPeriod core (getD rs j []) (s (i + j) .curve))
+    → PartsOf perPeriod core ws rs (listFrom i (length rs) s)
+unfolding listFrom
+parts-from perPeriod core i [] [] s len share curve = tt
+parts-from perPeriod core i [] (r ∷ rs) s len share curve = absurd (omega (arith, len))
+parts-from perPeriod core i (w ∷ ws) [] s len share curve = absurd (omega (arith, len))
+parts-from perPeriod core i (w ∷ ws) (r ∷ rs) s len share curve = (
+  subst (λ (j : ℕ). s j .share ≡ w) (add-zero i) (share 0 (omega arith)),
+  subst (λ (j : ℕ). EnvelopeOf perPeriod core r (s j .curve)) (add-zero i) (curve 0 (omega arith)),
+  parts-from perPeriod core (suc i) ws rs s (suc-inj len)
+      (λ j h. subst (λ (k : ℕ). s k .share ≡ getD ws j 0) (step-index i j) (share (suc j) (omega (arith, h))))
+      (λ j h. subst (λ (k : ℕ). EnvelopeOf perPeriod core (getD rs j []) (s k .curve)) (step-index i j) (curve (suc j) (omega (arith, h)))),
+)
+
+none-concave : Concave none
+none-concave = record { starts = refl; rising = tt; climbing = tt; falling = tt }
+
+-- the curves of a plan, given for each interval
+abbrev pub CurvesOf : Plan → ℕ → (ℕ → Curve) → Type 0
+CurvesOf p core curve =
+    (i : ℕ) → i < intervals p → EnvelopeOf (p .perPeriod) core (getD (rows p) i []) (curve i)
+
+module _ (p : Plan) (core : ℕ) (sound : SoundPlan p) where
+  row-whole : (i : ℕ) → i < intervals p → sumOf (getD (rows p) i []) ≡ p .perPeriod
+  row-whole i h =
+      all-at (λ (r : List ℕ). sumOf r ≡ p .perPeriod) (rows p) [] i (plan-whole p sound)
+      (subst (λ (n : ℕ). i < n) (sym (sound .rowsCount)) h)
+
+  inside-rows : (i : ℕ) → i < length (rows p) → i < intervals p
+  inside-rows i h = subst (λ (n : ℕ). i < n) (sound .rowsCount) h
+
+  -- the curve of every interval is concave
+  curves-concave : (curve : ℕ → Curve) → CurvesOf p core curve → (i : ℕ) → Concave (within 0 (intervals p) curve i)
+  curves-concave curve env i =
+      ⊎-elim
+      (λ past. subst Concave (sym (within-after 0 (intervals p) i curve past)) none-concave)
+      (λ inside.
+      subst
+      Concave
+      (sym (within-inside 0 (intervals p) i curve zero-le inside))
+      (row-concave (p .perPeriod) core (getD (rows p) i []) (curve i) (row-whole i inside) (env i inside)))
+      (le-or-lt (intervals p) i)
+
+  -- a curve starts at stall 0, where the core has a budget
+  starts-at-none : (curve : ℕ → Curve)
+      → SoundCore p core
+      → CurvesOf p core curve
+      → (i : ℕ)
+      → within 0 (intervals p) curve i .first .stall ≡ 0
+  starts-at-none curve budgets env i =
+      ⊎-elim
+      (λ past. ap (λ (c : Curve). c .first .stall) (within-after 0 (intervals p) i curve past))
+      (λ inside.
+      let r = getD (rows p) i [] in
+      let e = env i inside in
+      let some : 1 ≤ budgetOf core r =
+      all-at (λ (row : List ℕ). 1 ≤ budgetOf core row) (rows p) [] i (budgets .budgets)
+      (subst (λ (n : ℕ). i < n) (sym (sound .rowsCount)) inside) in
+      ap (λ (c : Curve). c .first .stall) (within-inside 0 (intervals p) i curve zero-le inside)
+      ∙ first-on (raw (p .perPeriod) r core) (curve i .first) (curve i .rest) (e .onRaw)
+      ∙ ap (raw (p .perPeriod) r core) (e .starts)
+      ∙ raw-below (p .perPeriod) r core 0 some
+      ∙ smaller-none (others (core - 1) r))
+      (le-or-lt (intervals p) i)
+
+  no-stall : (n : ℕ) (share : ℕ → ℕ) (curve : ℕ → Curve) (i : ℕ)
+      → ((j : ℕ) → curve j .first .stall ≡ 0)
+      → sumFrom i n (λ j. share j * curve j .first .stall) ≡ 0
+  unfolding sumFrom
+  no-stall zero share curve i all = refl
+  no-stall (suc n) share curve i all =
+      omega (
+        arith,
+        ap (λ (m : ℕ). share i * m) (all i),
+        no-stall n share curve (suc i) all,
+      )
+
+  module _ (budgets : SoundCore p core) (curve : ℕ → Curve) (env : CurvesOf p core curve) (o : List Pick)
+      (order : Order (within 0 (intervals p) curve) o) (ws : List ℕ) (many : length ws ≡ intervals p) (requests : ℕ) (share : ℕ → ℕ)
+      (given : (i : ℕ) → i < intervals p → share i ≡ getD ws i 0) where
+    -- the intervals as parts, each with its share and its curve
+    parts : List Part
+    parts = listFrom 0 (intervals p) (λ j. record { share = share j; curve = within 0 (intervals p) curve j })
+
+    of-plan : PartsOf (p .perPeriod) core ws (rows p) parts
+    unfolding parts
+    of-plan =
+        subst
+        (λ (n : ℕ). PartsOf (p .perPeriod) core ws (rows p) (listFrom 0 n (λ j. record { share = share j; curve = within 0 (intervals p) curve j })))
+        (sound .rowsCount)
+        (parts-from (p .perPeriod) core 0 ws (rows p)
+        (λ j. record { share = share j; curve = within 0 (intervals p) curve j })
+        (many ∙ sym (sound .rowsCount))
+        (λ j h. ap share (zero-add j) ∙ given j (inside-rows j h))
+        (λ j h.
+        subst
+        (EnvelopeOf (p .perPeriod) core (getD (rows p) j []))
+        (sym (ap (within 0 (intervals p) curve) (zero-add j) ∙ within-inside 0 (intervals p) j curve zero-le (inside-rows j h)))
+        (env j (inside-rows j h))))
+
+    ends : (i : ℕ) → intervals p ≤ i → within 0 (intervals p) curve i .rest ≡ []
+    ends i past = ap (λ (c : Curve). c .rest) (within-after 0 (intervals p) i curve past)
+
+    -- filling by the order gives the answered placement, and the walk its stall
+    pub answered-by-order :
+        AnsweredWith
+        p
+        core
+        requests
+        ws
+        (listFrom 0 (intervals p) (fill share o requests (λ j. 0)))
+        (roundUp (walkStall 0 (walk share o requests)))
+    unfolding parts
+    answered-by-order =
+        let n = intervals p in
+        let concave = curves-concave curve env in
+        let none-first : stallOf n share (within 0 n curve) concave (within 0 n curve) ≡ 0 =
+        no-stall n share (within 0 n curve) 0 (starts-at-none curve budgets env) in
+        let value = filled-stall n share (within 0 n curve) concave o requests order ends in
+        record {
+          parts = parts;
+          ofPlan = of-plan;
+          answered = filled-answered n share (within 0 n curve) concave o requests order ends;
+          rounded =
+              sym
+              (round-up-same
+              _
+              (walkStall 0 (walk share o requests))
+              (filled-proper n share (within 0 n curve) concave o requests order ends)
+              (walk-proper n share (within 0 n curve) concave o requests order ends)
+              (subst
+              (λ (m : ℕ). total parts (listFrom 0 n (fill share o requests (λ j. 0))) =ᶠ walkStall m (walk share o requests))
+              none-first
+              value));
+        }
+
+-- the intervals of a group, and nothing of the others, twice over
+within-twice : (n : ℕ) (curve : ℕ → Curve) → within 0 n (within 0 n curve) ≡ within 0 n curve
+within-twice n curve =
+    fun-ext λ i.
+    ⊎-elim
+    (λ past. within-after 0 n i (within 0 n curve) past ∙ sym (within-after 0 n i curve past))
+    (λ inside. within-inside 0 n i (within 0 n curve) zero-le inside)
+    (le-or-lt n i)
+
+-- the answered placement and its stall, by the order of all segments merged interval by interval
+pub answered-in-order : (p : Plan) (core : ℕ) (sound : SoundPlan p) (budgets : SoundCore p core) (curve : ℕ → Curve)
+    → CurvesOf p core curve
+    → (ws : List ℕ)
+    → length ws ≡ intervals p
+    → (requests : ℕ)
+    → AnsweredWith
+    p
+    core
+    requests
+    ws
+    (listFrom
+    0
+    (intervals p)
+    (fill (λ i. getD ws i 0) (orderTo (intervals p) (within 0 (intervals p) curve)) requests (λ j. 0)))
+    (roundUp
+    (walkStall
+    0
+    (walk (λ i. getD ws i 0) (orderTo (intervals p) (within 0 (intervals p) curve)) requests)))
+answered-in-order p core sound budgets curve env ws many requests =
+    let n = intervals p in
+    answered-by-order p core sound budgets curve env (orderTo n (within 0 n curve))
+    (subst
+    (λ (now : ℕ → Curve). Order now (orderTo n (within 0 n curve)))
+    (within-twice n curve)
+    (order-to n (within 0 n curve) (curves-concave p core sound curve env)))
+    ws
+    many
+    requests
+    (λ i. getD ws i 0)
+    (λ i h. refl)
+
+-- an answered placement is one of greatest stall
+pub answered-greatest : (p : Plan) (core requests : ℕ) (ws xs : List ℕ) (s : ℕ)
+    → (h : AnsweredWith p core requests ws xs s)
+    → GreatestStall p core requests ws (total (h .parts) xs)
+answered-greatest p core requests ws xs s h =
+    record {
+      parts = h .parts;
+      ofPlan = h .ofPlan;
+      placement = xs;
+      greatest = h .answered .greatest;
+      value = refl;
+    }
+
+module _ (p : Plan) (core : ℕ) (sound : SoundPlan p) (budgets : SoundCore p core) where
+  -- the envelope of interval i, where there is such an interval
+  chosen : (i : ℕ) → (intervals p ≤ i) ⊎ (i < intervals p) → Curve
+  chosen i (inl past) = none
+  chosen i (inr inside) =
+      envelope-exists (raw (p .perPeriod) (getD (rows p) i []) core) (budgetOf core (getD (rows p) i []))
+      (raw-rises (p .perPeriod) (getD (rows p) i []) core (row-whole p core sound i inside)) .0
+
+  chosen-envelope : (i : ℕ) (at : (intervals p ≤ i) ⊎ (i < intervals p))
+      → i < intervals p
+      → EnvelopeOf (p .perPeriod) core (getD (rows p) i []) (chosen i at)
+  unfolding chosen
+  chosen-envelope i (inl past) inside = absurd (lt-irrefl i (lt-of-lt-of-le inside past))
+  chosen-envelope i (inr here) inside =
+      envelope-exists (raw (p .perPeriod) (getD (rows p) i []) core) (budgetOf core (getD (rows p) i []))
+      (raw-rises (p .perPeriod) (getD (rows p) i []) core (row-whole p core sound i here)) .1
+
+  -- the envelope of each interval, and no segment where there is no interval
+  curveFor : ℕ → Curve
+  curveFor i = chosen i (le-or-lt (intervals p) i)
+
+  curves-given : CurvesOf p core curveFor
+  unfolding curveFor
+  curves-given i inside = chosen-envelope i (le-or-lt (intervals p) i) inside
+
+  -- whatever the shares are, there is an answered placement
+  pub answered-exists : (requests : ℕ) (ws : List ℕ) → length ws ≡ intervals p → (xs : List ℕ) × (s : ℕ) × AnsweredWith p core requests ws xs s
+  answered-exists requests ws many =
+      let share : ℕ → ℕ = λ i. getD ws i 0 in
+      let o = orderTo (intervals p) (within 0 (intervals p) curveFor) in (
+        listFrom 0 (intervals p) (fill share o requests (λ j. 0)),
+        roundUp (walkStall 0 (walk share o requests)),
+        answered-in-order p core sound budgets curveFor curves-given ws many requests,
+      )
+
+  -- and a greatest stall
+  pub greatest-exists : (requests : ℕ) (ws : List ℕ) → length ws ≡ intervals p → (f : Fraction) × GreatestStall p core requests ws f
+  greatest-exists requests ws many =
+      let h = answered-exists requests ws many in
+      (total (h .2 .parts) (h .0), answered-greatest p core requests ws (h .0) (h .1) (h .2))

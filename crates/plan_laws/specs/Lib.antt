@@ -1,0 +1,3 @@
+pub mod RefusalOrder
+pub mod SoundPlan
+pub mod RefusedZeros

@@ -1,0 +1,303 @@
+-- A plan is not refused just where it is sound, and so is a core of it; and how a walk over the intervals goes from one to the next.
+use mathlib.Core.Path.{_≡_, refl, ap}
+use mathlib.Core.Bool.{false, not, _||_}
+use mathlib.Core.List.{List, [], _∷_}
+use Prim.Native.Nat.{ℕ, zero, suc, _+_, _-_, _*_, _≤_, _<_, zero-le}
+use native.Mathlib.Nat.{le-of-suc-le-suc, zero-mul, suc-mul, add-comm}
+use native.Mathlib.Numerals.{add-one}
+use native.Mathlib.Omega.{arith}
+use lib.ListN.{length, getD, take, drop, length-take, length-drop}
+use lib.Seq.{drop-drop, drop-cons, getD-take, getD-drop}
+use lib.Dec.{ltb, eqb}
+use borrow.Author.Tests.{ltb-false, eqb-true, eqb-false, not-false, le-ltb, eq-eqb, ne-eqb}
+use Rattle.meaning.specs.Plan.{Plan, sumOf, intervals, periods, rowsOf, rows, budgetOf, All, mostCores, mostPerPeriod, mostIntervals, mostPeriods}
+use Rattle.meaning.specs.Refusals.{refusedIf, _before_, outside, coresRefusal, perPeriodRefusal, intervalsOutside, intervalRefusal, intervalsRefusal, planRefusal, withoutBudget, coreRefusal}
+use Rattle.meaning.specs.Placement.{total}
+use Rattle.plan_laws.specs.RefusalOrder.{first-zero, second-zero, first-bounded, rule-bounded, both-zero, not-broken, not-refused, or-first, or-second, neither, inside, not-outside}
+
+-- there are as many rows as intervals
+pub rows-count : (m : ℕ) (lengths budgets : List ℕ) → length (rowsOf m lengths budgets) ≡ length lengths
+unfolding rowsOf
+rows-count m [] budgets = refl
+rows-count m (l ∷ lengths) budgets = ap suc (rows-count m lengths (drop m budgets))
+
+-- the row of an interval is the part of the budgets that begins at its number times the cores
+pub row-at : (m : ℕ) (lengths budgets : List ℕ) (i : ℕ)
+    → i < length lengths
+    → getD (rowsOf m lengths budgets) i [] ≡ take m (drop (i * m) budgets)
+unfolding rowsOf
+row-at m [] budgets i h = absurd (omega arith)
+row-at m (l ∷ lengths) budgets zero h = rw zero-mul
+row-at m (l ∷ lengths) budgets (suc i) h =
+    rw (suc-mul, add-comm (i * m) m, ← drop-drop) (row-at m lengths (drop m budgets) i (le-of-suc-le-suc h))
+
+-- the budgets of one interval: one for each core, and they sum to Q
+pub record WholeRow (m perPeriod : ℕ) (row : List ℕ) : Type 0 where
+  pub cores : length row ≡ m
+  pub sum : sumOf row ≡ perPeriod
+
+-- what is asked of one interval, after so many periods
+pub record SoundInterval (perPeriod soFar l : ℕ) (row : List ℕ) : Type 0 where
+  pub some : 1 ≤ l
+  pub total : soFar + l ≤ mostPeriods
+  pub sum : sumOf row ≡ perPeriod
+
+-- an interval that is not refused is sound
+pub sound-interval : (perPeriod soFar l : ℕ) (row : List ℕ)
+    → intervalRefusal perPeriod soFar l row ≡ 0
+    → SoundInterval perPeriod soFar l row
+sound-interval perPeriod soFar l row e =
+    let empty = eqb l 0 in
+    let passes = ltb mostPeriods (soFar + l) in
+    let other = not (eqb (sumOf row) perPeriod) in
+    let long = not-broken (empty || passes) 3 (first-zero _ (refusedIf other 5) e) in
+    record {
+      some = omega (arith, eqb-false l 0 (or-first empty passes long));
+      total = ltb-false mostPeriods (soFar + l) (or-second empty passes long);
+      sum =
+          eqb-true
+          (sumOf row)
+          perPeriod
+          (not-false (eqb (sumOf row) perPeriod) (not-broken other 4 (second-zero (refusedIf (empty || passes) 4) _ e)));
+    }
+
+-- a sound interval is not refused
+pub interval-sound : (perPeriod soFar l : ℕ) (row : List ℕ)
+    → SoundInterval perPeriod soFar l row
+    → intervalRefusal perPeriod soFar l row ≡ 0
+interval-sound perPeriod soFar l row s =
+    rw (
+      ne-eqb l 0 (λ e. omega arith),
+      le-ltb mostPeriods (soFar + l) (s .total),
+      eq-eqb (sumOf row) perPeriod (s .sum),
+    )
+
+-- what is asked of the intervals from one on, after so many periods
+record SoundIntervals (m perPeriod soFar : ℕ) (ls budgets : List ℕ) : Type 0 where
+  lengths : All (λ (l : ℕ). 1 ≤ l) ls
+  total : soFar + sumOf ls ≤ mostPeriods
+  rows : All (WholeRow m perPeriod) (rowsOf m ls budgets)
+
+-- intervals that are not refused are sound
+sound-intervals : (m perPeriod soFar : ℕ) (lengths budgets : List ℕ)
+    → length budgets ≡ length lengths * m
+    → soFar ≤ mostPeriods
+    → intervalsRefusal perPeriod soFar lengths (rowsOf m lengths budgets) ≡ 0
+    → SoundIntervals m perPeriod soFar lengths budgets
+unfolding intervalsRefusal rowsOf
+sound-intervals m perPeriod soFar [] budgets count within e =
+    record { lengths = tt; total = omega arith; rows = tt }
+sound-intervals m perPeriod soFar (l ∷ lengths) budgets count within e =
+    let here = intervalRefusal perPeriod soFar l (take m budgets) in
+    let later = intervalsRefusal perPeriod (soFar + l) lengths (rowsOf m lengths (drop m budgets)) in
+    let first = sound-interval perPeriod soFar l (take m budgets) (first-zero here later e) in
+    let count′ : length (drop m budgets) ≡ length lengths * m = simp length-drop (omega (arith, suc-mul (length lengths) m)) in
+    let rest = sound-intervals m perPeriod (soFar + l) lengths (drop m budgets) count′ (first .total) (second-zero here later e) in
+    record {
+      lengths = (first .some, rest .lengths);
+      total = omega (arith, rest .total);
+      rows = (record { cores = simp length-take (omega (arith, suc-mul (length lengths) m)); sum = first .sum }, rest .rows);
+    }
+
+-- sound intervals are not refused
+intervals-sound : (m perPeriod soFar : ℕ) (lengths budgets : List ℕ)
+    → SoundIntervals m perPeriod soFar lengths budgets
+    → intervalsRefusal perPeriod soFar lengths (rowsOf m lengths budgets) ≡ 0
+unfolding intervalsRefusal rowsOf
+intervals-sound m perPeriod soFar [] budgets s = refl
+intervals-sound m perPeriod soFar (l ∷ lengths) budgets s =
+    both-zero
+    (interval-sound
+    perPeriod
+    soFar
+    l
+    (take m budgets)
+    (record { some = s .lengths .0; total = omega (arith, s .total); sum = s .rows .0 .sum }))
+    (intervals-sound
+    m
+    perPeriod
+    (soFar + l)
+    lengths
+    (drop m budgets)
+    (record { lengths = s .lengths .1; total = omega (arith, s .total); rows = s .rows .1 }))
+
+-- what is asked of a plan, and what follows for its rows
+pub record SoundPlan (p : Plan) : Type 0 where
+  pub someCores : 1 ≤ p .cores
+  pub fewCores : p .cores ≤ mostCores
+  pub someSlots : 1 ≤ p .perPeriod
+  pub fewSlots : p .perPeriod ≤ mostPerPeriod
+  pub someIntervals : 1 ≤ intervals p
+  pub fewIntervals : intervals p ≤ mostIntervals
+  pub count : length (p .budgets) ≡ intervals p * p .cores
+  pub lengths : All (λ (l : ℕ). 1 ≤ l) (p .lengths)
+  pub total : periods p ≤ mostPeriods
+  pub rowsCount : length (rows p) ≡ intervals p
+  pub rows : All (WholeRow (p .cores) (p .perPeriod)) (rows p)
+
+-- a plan that is not refused is sound
+pub sound-plan : (p : Plan) → planRefusal p ≡ 0 → SoundPlan p
+unfolding planRefusal
+sound-plan p e =
+    let uncounted = not (eqb (length (p .budgets)) (intervals p * p .cores)) in
+    let four = intervalsRefusal (p .perPeriod) 0 (p .lengths) (rows p) in
+    let three = refusedIf (intervalsOutside (intervals p) || uncounted) 3 in
+    let two = perPeriodRefusal (p .perPeriod) in
+    let one = coresRefusal (p .cores) in
+    let e₂ = second-zero one (two before three before four) e in
+    let e₃ = second-zero two (three before four) e₂ in
+    let cores = inside 1 mostCores (p .cores) (not-broken _ 0 (first-zero one (two before three before four) e)) in
+    let slots = inside 1 mostPerPeriod (p .perPeriod) (not-broken _ 1 (first-zero two (three before four) e₂)) in
+    let counts = not-broken (intervalsOutside (intervals p) || uncounted) 2 (first-zero three four e₃) in
+    let number = inside 1 mostIntervals (intervals p) (or-first (intervalsOutside (intervals p)) uncounted counts) in
+    let count = eqb-true _ _ (not-false _ (or-second (intervalsOutside (intervals p)) uncounted counts)) in
+    let each = sound-intervals (p .cores) (p .perPeriod) 0 (p .lengths) (p .budgets) count zero-le (second-zero three four e₃) in
+    record {
+      someCores = cores .0;
+      fewCores = cores .1;
+      someSlots = slots .0;
+      fewSlots = slots .1;
+      someIntervals = number .0;
+      fewIntervals = number .1;
+      count = count;
+      lengths = each .lengths;
+      total = omega (arith, each .total);
+      rowsCount = rows-count (p .cores) (p .lengths) (p .budgets);
+      rows = each .rows;
+    }
+
+-- a sound plan is not refused
+pub plan-sound : (p : Plan) → SoundPlan p → planRefusal p ≡ 0
+unfolding planRefusal
+plan-sound p s =
+    both-zero
+    (not-refused 1 (not-outside (s .someCores) (s .fewCores)))
+    (both-zero
+    (not-refused 2 (not-outside (s .someSlots) (s .fewSlots)))
+    (both-zero
+    (not-refused 3 (neither (not-outside (s .someIntervals) (s .fewIntervals)) (ap not (eq-eqb _ _ (s .count)))))
+    (intervals-sound
+    (p .cores)
+    (p .perPeriod)
+    0
+    (p .lengths)
+    (p .budgets)
+    (record { lengths = s .lengths; total = omega (arith, s .total); rows = s .rows }))))
+
+-- what is asked of the core under analysis
+pub record SoundCore (p : Plan) (core : ℕ) : Type 0 where
+  pub first : 1 ≤ core
+  pub last : core ≤ p .cores
+  pub budgets : All (λ (row : List ℕ). 1 ≤ budgetOf core row) (rows p)
+
+-- a core that is not without a budget has one in every row
+with-budget : (core : ℕ) (rs : List (List ℕ))
+    → withoutBudget core rs ≡ false
+    → All (λ (row : List ℕ). 1 ≤ budgetOf core row) rs
+unfolding withoutBudget
+with-budget core [] e = tt
+with-budget core (r ∷ rs) e =
+    let none = eqb (budgetOf core r) 0 in (
+      omega (arith, eqb-false (budgetOf core r) 0 (or-first none (withoutBudget core rs) e)),
+      with-budget core rs (or-second none (withoutBudget core rs) e),
+    )
+
+-- a core that has a budget in every row is not without one
+not-without : (core : ℕ) (rs : List (List ℕ))
+    → All (λ (row : List ℕ). 1 ≤ budgetOf core row) rs
+    → withoutBudget core rs ≡ false
+unfolding withoutBudget
+not-without core [] all = refl
+not-without core (r ∷ rs) all =
+    rw (ne-eqb (budgetOf core r) 0 (λ e. omega (arith, all .0))) (not-without core rs (all .1))
+
+-- a core that is not refused is sound
+pub sound-core : (p : Plan) (core : ℕ) → coreRefusal p core ≡ 0 → SoundCore p core
+unfolding coreRefusal
+sound-core p core e =
+    let six = refusedIf (outside 1 (p .cores) core) 6 in
+    let seven = refusedIf (withoutBudget core (rows p)) 7 in
+    let number = inside 1 (p .cores) core (not-broken _ 5 (first-zero six seven e)) in
+    record {
+      first = number .0;
+      last = number .1;
+      budgets = with-budget core (rows p) (not-broken _ 6 (second-zero six seven e));
+    }
+
+-- a sound core is not refused
+pub core-sound : (p : Plan) (core : ℕ) → SoundCore p core → coreRefusal p core ≡ 0
+unfolding coreRefusal
+core-sound p core s =
+    both-zero
+    (not-refused 6 (not-outside (s .first) (s .last)))
+    (not-refused 7 (not-without core (rows p) (s .budgets)))
+
+module _ (m : ℕ) (lengths budgets : List ℕ) (i : ℕ) (h : i < length lengths) where
+  -- the rows from an interval on are its row and the rows after it
+  pub rows-from : drop i (rowsOf m lengths budgets) ≡ take m (drop (i * m) budgets) ∷ drop (i + 1) (rowsOf m lengths budgets)
+  rows-from =
+      let more : i < length (rowsOf m lengths budgets) = rw (rows-count m lengths budgets) h in
+      rw (add-one, drop-cons (rowsOf m lengths budgets) i [] more, row-at m lengths budgets i h)
+
+  -- the intervals from one on, after so many periods, are judged as that one before the rest
+  pub intervals-from : (perPeriod soFar : ℕ)
+      → intervalsRefusal perPeriod soFar (drop i lengths) (drop i (rowsOf m lengths budgets))
+      ≡ intervalRefusal perPeriod soFar (getD lengths i 0) (take m (drop (i * m) budgets))
+      before intervalsRefusal perPeriod (soFar + getD lengths i 0) (drop (i + 1) lengths) (drop (i + 1) (rowsOf m lengths budgets))
+  unfolding intervalsRefusal
+  intervals-from perPeriod soFar = rw (rows-from, drop-cons lengths i 0 h, add-one)
+
+  -- a core is without a budget from an interval on where it is so in that one or later
+  pub without-from : (core : ℕ)
+      → 1 ≤ core
+      → core ≤ m
+      → withoutBudget core (drop i (rowsOf m lengths budgets))
+      ≡ (eqb (getD budgets (i * m + (core - 1)) 0) 0 || withoutBudget core (drop (i + 1) (rowsOf m lengths budgets)))
+  unfolding withoutBudget
+  without-from core first last =
+      let column : core - 1 < m = omega arith in
+      rw (rows-from, getD-take m (drop (i * m) budgets) (core - 1) 0 column, getD-drop)
+
+-- every interval's budgets sum to Q
+abbrev pub WholeRows : ℕ → List (List ℕ) → Type 0
+WholeRows perPeriod rs = All (λ (r : List ℕ). sumOf r ≡ perPeriod) rs
+
+whole-rows : (m perPeriod : ℕ) (rs : List (List ℕ)) → All (WholeRow m perPeriod) rs → WholeRows perPeriod rs
+whole-rows m perPeriod [] h = tt
+whole-rows m perPeriod (r ∷ rs) h = (h .0 .sum, whole-rows m perPeriod rs (h .1))
+
+-- of a sound plan they do
+pub plan-whole : (p : Plan) → SoundPlan p → WholeRows (p .perPeriod) (rows p)
+plan-whole p sound = whole-rows (p .cores) (p .perPeriod) (rows p) (sound .rows)
+
+-- the refusals of the intervals are at most 11, as all that are given before a span is sought
+intervals-few : (perPeriod soFar : ℕ) (ls : List ℕ) (rs : List (List ℕ)) → intervalsRefusal perPeriod soFar ls rs ≤ 11
+unfolding intervalsRefusal
+intervals-few perPeriod soFar [] rs = zero-le
+intervals-few perPeriod soFar (l ∷ ls) [] = zero-le
+intervals-few perPeriod soFar (l ∷ ls) (r ∷ rs) =
+    let four = eqb l 0 || ltb mostPeriods (soFar + l) in
+    let five = not (eqb (sumOf r) perPeriod) in
+    first-bounded 11 (refusedIf four 4 before refusedIf five 5) (intervalsRefusal perPeriod (soFar + l) ls rs)
+    (first-bounded 11 (refusedIf four 4) (refusedIf five 5) (rule-bounded four 11 4 (omega arith)) (rule-bounded five 11 5 (omega arith)))
+    (intervals-few perPeriod (soFar + l) ls rs)
+
+-- so are those of a plan
+pub plan-few : (p : Plan) → planRefusal p ≤ 11
+unfolding planRefusal
+plan-few p =
+    let one = outside 1 mostCores (p .cores) in
+    let two = outside 1 mostPerPeriod (p .perPeriod) in
+    let three = intervalsOutside (intervals p) || not (eqb (length (p .budgets)) (intervals p * p .cores)) in
+    let later = intervalsRefusal (p .perPeriod) 0 (p .lengths) (rows p) in
+    first-bounded 11 (refusedIf one 1) (refusedIf two 2 before refusedIf three 3 before later) (rule-bounded one 11 1 (omega arith))
+    (first-bounded 11 (refusedIf two 2) (refusedIf three 3 before later) (rule-bounded two 11 2 (omega arith))
+    (first-bounded 11 (refusedIf three 3) later (rule-bounded three 11 3 (omega arith)) (intervals-few (p .perPeriod) 0 (p .lengths) (rows p))))
+
+-- and of a core
+pub core-few : (p : Plan) (core : ℕ) → coreRefusal p core ≤ 11
+unfolding coreRefusal
+core-few p core =
+    let six = outside 1 (p .cores) core in
+    let seven = withoutBudget core (rows p) in
+    first-bounded 11 (refusedIf six 6) (refusedIf seven 7) (rule-bounded six 11 6 (omega arith)) (rule-bounded seven 11 7 (omega arith))

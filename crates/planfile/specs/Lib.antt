@@ -1,9 +1,0 @@
-pub mod Faults
-pub mod Laws
-pub mod Reading
-pub mod Passing
-pub mod Storing
-pub mod Answering
-pub mod Writing
-pub mod Bytes
-pub mod Written

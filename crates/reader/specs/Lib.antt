@@ -1,0 +1,4 @@
+pub mod Reading
+pub mod Passing
+pub mod Filling
+pub mod Answering

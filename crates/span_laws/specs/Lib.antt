@@ -1,0 +1,9 @@
+pub mod StallAtW
+pub mod TermsRise
+pub mod TermsInSlots
+pub mod SearchFinds
+pub mod AllPlaced
+pub mod SpanQuestion
+pub mod AskedAgain
+pub mod IntervalsBehind
+pub mod WorkedAnswers

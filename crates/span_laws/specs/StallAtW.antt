@@ -1,0 +1,77 @@
+-- S(W) of a workload on a plan: it has one value, it grows with W, and there always is one with its answered placement. What is said of shares here is all that the laws of the span use.
+use mathlib.Core.Path.{_≡_, refl, ap, _∙_}
+use mathlib.Core.List.{List, [], _∷_}
+use Prim.Native.Nat.{ℕ, suc, _≤_}
+use native.Mathlib.Nat.{le-refl, le-trans}
+use lib.ListN.{length}
+use Rattle.meaning.specs.Fraction.{Fraction, Proper, _≤ᶠ_, _=ᶠ_}
+use Rattle.meaning.specs.Plan.{Plan, Workload, sumOf, intervals, mostSpan, mostPeriods, rows, intervalAt}
+use Rattle.meaning.specs.Placement.{Part, sharesAt, PartsOf, Fitting, total}
+use Rattle.meaning.specs.Span.{StallAt, PlacedAt}
+use Rattle.plan_laws.specs.SoundPlan.{SoundPlan, SoundCore}
+use Rattle.placement_laws.specs.Shares.{plan-sharing, shares-sum, shares-grow}
+use Rattle.placement_laws.specs.StallUnique.{stall-value-proper, stall-value-same, answered-with-unique}
+use Rattle.placement_laws.specs.PlacementExists.{answered-greatest, answered-exists}
+use Rattle.placement_laws.specs.StallGrows.{stall-grows}
+
+-- there are as many parts as shares, and as many numbers in a placement
+parts-count : (perPeriod core : ℕ) (ws : List ℕ) (rs : List (List ℕ)) (ps : List Part) (xs : List ℕ)
+    → PartsOf perPeriod core ws rs ps
+    → Fitting ps xs
+    → length xs ≡ length ws
+parts-count perPeriod core [] [] [] [] h fitting = refl
+parts-count perPeriod core (w ∷ ws) (r ∷ rs) (p ∷ ps) (x ∷ xs) h fitting =
+    ap suc (parts-count perPeriod core ws rs ps xs (h .2) (fitting .1))
+
+-- an answered placement has a number for each interval
+pub placed-count : (p : Plan) (w : Workload) (n : ℕ) (xs : List ℕ) (s : ℕ) → PlacedAt p w n xs s → length xs ≡ intervals p
+placed-count p w n xs s h =
+    parts-count (p .perPeriod) (w .core) (sharesAt p n) (rows p) (h .parts) xs (h .ofPlan) (h .answered .greatest .placed .fitting)
+    ∙ plan-sharing p .many n
+
+-- up to the plan's limit the shares of n periods sum to n
+pub shared-out : (p : Plan) (n : ℕ) → n ≤ mostSpan p → sumOf (sharesAt p n) ≡ n
+shared-out p = shares-sum (intervals p) (mostSpan p) (sharesAt p) (intervalAt p) (plan-sharing p)
+
+-- which is no more than any plan has
+pub shared-few : (p : Plan) (n : ℕ) → SoundPlan p → n ≤ mostSpan p → sumOf (sharesAt p n) ≤ mostPeriods
+shared-few p n sound inside = rw (shared-out p n inside) (le-trans inside (sound .total))
+
+module _ (p : Plan) (w : Workload) (sound : SoundPlan p) where
+  -- S(W) has a divisor of at least 1
+  pub stall-at-proper : (n : ℕ) (f : Fraction) → StallAt p w n f → Proper f
+  stall-at-proper n = stall-value-proper p (w .core) sound (w .requests) (sharesAt p n)
+
+  -- it has one value
+  pub stall-at-same : (n : ℕ) (f g : Fraction) → StallAt p w n f → StallAt p w n g → f =ᶠ g
+  stall-at-same n = stall-value-same p (w .core) sound (w .requests) (sharesAt p n)
+
+  -- the answered placement is one list
+  pub placed-at-unique : (n : ℕ) (xs ys : List ℕ) (s t : ℕ) → PlacedAt p w n xs s → PlacedAt p w n ys t → (xs ≡ ys) × (s ≡ t)
+  placed-at-unique n = answered-with-unique p (w .core) sound (w .requests) (sharesAt p n)
+
+  -- an answered placement has the greatest stall
+  pub placed-at-greatest : (n : ℕ) (xs : List ℕ) (s : ℕ) (h : PlacedAt p w n xs s) → StallAt p w n (total (h .parts) xs)
+  placed-at-greatest n = answered-greatest p (w .core) (w .requests) (sharesAt p n)
+
+  -- there always is one
+  pub placed-at-exists : SoundCore p (w .core) → (n : ℕ) → (xs : List ℕ) × (s : ℕ) × PlacedAt p w n xs s
+  placed-at-exists budgets n = answered-exists p (w .core) sound budgets (w .requests) (sharesAt p n) (plan-sharing p .many n)
+
+  -- S(W) of a workload with no more requests on the same core, for no more periods, is no larger
+  pub stall-at-grows : (v : Workload) (t n : ℕ) (f g : Fraction)
+      → v .core ≡ w .core
+      → v .requests ≤ w .requests
+      → t ≤ n
+      → StallAt p v t f
+      → StallAt p w n g
+      → f ≤ᶠ g
+  stall-at-grows v t n f g core requests periods hf hg =
+      stall-grows p (w .core) sound (v .requests) (w .requests) (sharesAt p t) (sharesAt p n) f g requests
+      (shares-grow (intervals p) (mostSpan p) (sharesAt p) (intervalAt p) (plan-sharing p) t n periods)
+      (rw core at hf)
+      hg
+
+  -- S(W) grows with W
+  pub stall-at-rises : (t n : ℕ) (f g : Fraction) → t ≤ n → StallAt p w t f → StallAt p w n g → f ≤ᶠ g
+  stall-at-rises t n f g = stall-at-grows w t n f g (λ i. w .core) (le-refl (w .requests))

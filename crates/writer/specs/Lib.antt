@@ -1,0 +1,4 @@
+pub mod Writing
+pub mod Storing
+pub mod Bytes
+pub mod Written
