@@ -1,15 +1,15 @@
 -- What the user asked to be certain of, in the order of the user's sentences, and document 01's sentences on the curve. Each is stated over the promises and definitions of `meaning`; the proofs are in the crates of laws.
 use mathlib.Core.Path.{_≡_, refl, sym, ap, _∙_, subst}
 use mathlib.Core.Logic.{_↔_}
-use mathlib.Core.Bool.{true}
-use mathlib.Core.List.{List, _++_}
-use Prim.Native.Nat.{ℕ, _+_, _*_, _≤_, _<_}
+use mathlib.Core.Bool.{true, false}
+use mathlib.Core.List.{List, _++_, map}
+use Prim.Native.Nat.{ℕ, suc, _+_, _*_, _≤_, _<_}
 use native.Mathlib.Nat.{le-refl}
-use lib.ListN.{length, take, drop}
+use lib.ListN.{length, getD, take, drop}
 use Rattle.meaning.specs.Fraction.{Fraction, Proper, whole, _≤ᶠ_, _=ᶠ_}
-use Rattle.meaning.specs.Plan.{Plan, Workload, sumOf, intervals, rows, mostSpan, budgetOf}
+use Rattle.meaning.specs.Plan.{Plan, Workload, sumOf, intervals, periods, rows, mostSpan, budgetOf, intervalAt}
 use Rattle.meaning.specs.Curve.{Curve, limit, raw, EnvelopeOf, intervalStall, OnChord, ConcaveAny}
-use Rattle.meaning.specs.Placement.{Part, Parts, total}
+use Rattle.meaning.specs.Placement.{Part, shares, sharesAt, Parts, total}
 use Rattle.meaning.specs.Span.{StallAt, PlacedAt, IsSpan, NoSpan, Rounds, firstTerm}
 use Rattle.meaning.specs.Run.{Period, Lawful, EndsWithin}
 use Rattle.meaning.specs.Refusals.{planRefusal, coreRefusal, spanRefusal}
@@ -25,10 +25,11 @@ use Rattle.curve_laws.specs.EnvelopeUnique.{envelope-unique}
 use Rattle.curve_laws.specs.SegmentCount.{at-most-cores}
 use Rattle.curve_laws.specs.EnvelopeLeast.{envelope-over, envelope-on-chord, envelope-least}
 use Rattle.curve_laws.specs.CurveQuestions.{raw-answer-exists, raw-answer-unique, corners-answer-exists, corners-answer-unique}
+use Rattle.placement_laws.specs.Shares.{shares-more, plan-sharing, plan-first-cycle, plan-full-cycles}
 use Rattle.placement_laws.specs.StallUnique.{row-concave, parts-concave, parts-proper}
 use Rattle.placement_laws.specs.PartsBehind.{idle-takes, idle-stall}
 use Rattle.placement_laws.specs.PlacementQuestion.{placement-answer-exists, placement-answer-unique}
-use Rattle.span_laws.specs.StallAtW.{stall-at-same, placed-at-greatest, placed-at-exists}
+use Rattle.span_laws.specs.StallAtW.{shared-out, stall-at-same, placed-at-greatest, placed-at-exists}
 use Rattle.span_laws.specs.SpanQuestion.{span-promise-exists, span-promise-unique, seen-span, answer-places-all, answer-rounds, answer-twelve}
 use Rattle.span_laws.specs.AskedAgain.{answer-room, asked-less, asked-later}
 use Rattle.span_laws.specs.IntervalsBehind.{asked-longer}
@@ -158,6 +159,27 @@ stall-certain p w n plan core =
     let greatest = placed-at-greatest p w sound n (found .0) (found .1) (found .2) in
     (f, greatest, λ g h. stall-at-same p w sound n g f h greatest)
 
+-- 2026-01, "interval j gets its length once for each full cycle plus its part of the last one": the shares sum to W, up to T they are those of the plain plan, k·T periods are k times the lengths, and a period more is one more for the interval that it lies in and for no other
+pub record SharesCertain (p : Plan) : Type 0 where
+  pub all : (w : ℕ) → w ≤ mostSpan p → sumOf (sharesAt p w) ≡ w
+  pub firstCycle : (w : ℕ) → w ≤ periods p → sharesAt p w ≡ shares 0 w (p .lengths)
+  pub fullCycles : p .repeating ≡ true → (k : ℕ) → sharesAt p (k * periods p) ≡ map (λ (l : ℕ). k * l) (p .lengths)
+  pub onePeriod : (w : ℕ)
+      → w < mostSpan p
+      → (getD (sharesAt p (suc w)) (intervalAt p w) 0 ≡ suc (getD (sharesAt p w) (intervalAt p w) 0))
+      × ((j : ℕ) → (j ≡ intervalAt p w → ⊥) → getD (sharesAt p (suc w)) j 0 ≡ getD (sharesAt p w) j 0)
+
+-- that is so of every plan that is not refused
+pub shares-certain : (p : Plan) → planRefusal p ≡ 0 → SharesCertain p
+shares-certain p e =
+    let sound = sound-plan p e in
+    record {
+      all = λ w. shared-out p w sound;
+      firstCycle = λ w. plan-first-cycle p w sound;
+      fullCycles = λ marked k. plan-full-cycles p k sound marked;
+      onePeriod = shares-more (intervals p) (mostSpan p) (sharesAt p) (intervalAt p) (plan-sharing p sound);
+    }
+
 -- "'no span' exactly when no number up to the horizon will do", where the question is not refused for another reason
 pub no-span-exactly : (p : Plan) (w : Workload) (place : List ℕ) (a : SpanFigures) (after : List ℕ)
     → SpanPromise p w place a after
@@ -179,7 +201,7 @@ read-then-written file places a after place b out bytes h none again enough =
     subst
     (λ (s : List ℕ). (b ≡ record { refused = 0; bytes = length s }) × (take (length s) out ≡ s))
     (back .bytes)
-    (file-written f place b out (back .plan) (back .lists) room again)
+    (file-written f place b out (back .sound) room again)
 
 -- "a written plan reads back the same": what the writer wrote, handed to the reader, where it fits the places
 pub written-then-read : (f : PlanFile) (place : List ℕ) (a : WriteFigures) (after : List ℕ) (places : Places) (b : ReadFigures) (out : Places)
@@ -192,7 +214,7 @@ pub written-then-read : (f : PlanFile) (place : List ℕ) (a : WriteFigures) (af
 written-then-read f place a after places b out h none widths again room =
     let front = written-front f place a after h none in
     let reads : readFile (take (a .bytes) after) ≡ Reading.sound f =
-    subst (λ (s : List ℕ). readFile s ≡ Reading.sound f) (front .bytes) (written-reads f (front .plan) (front .lists) widths) in
+    subst (λ (s : List ℕ). readFile s ≡ Reading.sound f) (front .bytes) (written-reads f (front .sound) widths) in
     file-read (take (a .bytes) after) f places b out reads room again
 
 -- "The longest accepted file has 5,642 bytes, so `spans` reads 8,192 bytes at most and answers the same"
@@ -210,7 +232,7 @@ pub runs-end : (p : Plan) (w : Workload) (place : List ℕ) (a : SpanFigures) (a
     → EndsWithin p w run (a .span)
 runs-end p w place a after run (xs, answer, wrote) = answer-ends p w (length place) a xs run answer
 
--- "asked again with less work the span is no larger": up to any horizon within the plan that is not before the span, a span is given, whatever place with room is lent
+-- "asked again with less work the span is no larger": up to any horizon within the plan's limit that is not before the span, a span is given, whatever place with room is lent
 pub less-work-no-larger : (p : Plan) (w v : Workload) (place place' : List ℕ) (a b : SpanFigures) (after after' : List ℕ)
     → SpanPromise p w place a after
     → a .refused ≡ 0
@@ -221,8 +243,8 @@ pub less-work-no-larger : (p : Plan) (w v : Workload) (place place' : List ℕ) 
     → intervals p ≤ length place'
     → SpanPromise p v place' b after'
     → (b .refused ≡ 0) × (b .span ≤ a .span)
-less-work-no-larger p w v place place' a b after after' (xs, first, wrote) none less some inside inPlan lent (ys, again, wrote') =
-    asked-less p w v (length place') a b xs ys (answer-room p w (length place) (length place') a xs first none lent) none less some inside inPlan again
+less-work-no-larger p w v place place' a b after after' (xs, first, wrote) none less some inside inLimit lent (ys, again, wrote') =
+    asked-less p w v (length place') a b xs ys (answer-room p w (length place) (length place') a xs first none lent) none less some inside inLimit again
 
 -- "a later horizon .. leave it the same": span, stall, rounds and placement
 pub later-horizon-same : (p : Plan) (w : Workload) (h : ℕ) (place place' : List ℕ) (a b : SpanFigures) (after after' : List ℕ)
@@ -233,15 +255,16 @@ pub later-horizon-same : (p : Plan) (w : Workload) (h : ℕ) (place place' : Lis
     → intervals p ≤ length place'
     → SpanPromise p (until w h) place' b after'
     → (b ≡ a) × (take (intervals p) after' ≡ take (intervals p) after)
-later-horizon-same p w h place place' a b after after' first none later inPlan lent again =
+later-horizon-same p w h place place' a b after after' first none later inLimit lent again =
     let xs = take (intervals p) after in
     let answer = answer-room p w (length place) (length place') a xs (seen-span p w place a after first none .answer) none lent in
-    let same = asked-later p w h (length place') a b xs (again .0) answer none later inPlan (again .1) .0 in
+    let same = asked-later p w h (length place') a b xs (again .0) answer none later inLimit (again .1) .0 in
     let seen = seen-span p (until w h) place' b after' again (ap (λ (f : SpanFigures). f .refused) same ∙ none) in
-    (same, asked-later p w h (length place') a b xs (take (intervals p) after') answer none later inPlan (seen .answer) .1)
+    (same, asked-later p w h (length place') a b xs (take (intervals p) after') answer none later inLimit (seen .answer) .1)
 
--- "intervals added behind leave it the same": the placement is followed by zeros
+-- "intervals added behind leave it the same", for plain plans only: the placement is followed by zeros
 pub intervals-behind-same : (p : Plan) (ls bs : List ℕ) (w : Workload) (place place' : List ℕ) (a b : SpanFigures) (after after' : List ℕ)
+    → p .repeating ≡ false
     → SpanPromise p w place a after
     → a .refused ≡ 0
     → planRefusal (longer p ls bs) ≡ 0
@@ -249,14 +272,14 @@ pub intervals-behind-same : (p : Plan) (ls bs : List ℕ) (w : Workload) (place 
     → intervals (longer p ls bs) ≤ length place'
     → SpanPromise (longer p ls bs) w place' b after'
     → (b ≡ a) × (take (intervals (longer p ls bs)) after' ≡ take (intervals p) after ++ zerosFor ls)
-intervals-behind-same p ls bs w place place' a b after after' first none plan core lent again =
+intervals-behind-same p ls bs w place place' a b after after' plain first none plan core lent again =
     let xs = take (intervals p) after in
     let answer = seen-span p w place a after first none .answer in
-    let same = asked-longer p ls bs w (length place) (length place') a b xs (again .0) answer none plan core lent (again .1) .0 in
+    let same = asked-longer p ls bs w (length place) (length place') a b xs (again .0) plain answer none plan core lent (again .1) .0 in
     let seen = seen-span (longer p ls bs) w place' b after' again (ap (λ (f : SpanFigures). f .refused) same ∙ none) in
-    (same, asked-longer p ls bs w (length place) (length place') a b xs _ answer none plan core lent (seen .answer) .1)
+    (same, asked-longer p ls bs w (length place) (length place') a b xs _ plain answer none plan core lent (seen .answer) .1)
 
--- document 01 on the envelope of an interval whose budgets sum to Q: its corners exist and are the only ones, it has at most m segments, it is nowhere below the raw stall at whole r, each value of it lies on the chord of two raw stalls, and no concave curve of any kind that is nowhere below the raw stall is anywhere below it
+-- document 01 on the envelope of an interval whose budgets sum to Q: its corners exist and are the only ones, it has at most m segments, it is nowhere below the raw stall at whole r, each value of it lies on the chord of two raw stalls, no periods take no requests and stall 0, and no concave curve of any kind that is nowhere below the raw stall is anywhere below it
 pub record EnvelopeCertain (perPeriod core : ℕ) (budgets : List ℕ) : Type 0 where
   pub curve : Curve
   pub envelope : EnvelopeOf perPeriod core budgets curve

@@ -67,9 +67,16 @@ read-figures-one : (r s : ReadAnswer) → readFigures r ≡ readFigures s → r 
 read-figures-one (ReadAnswer.Sound c) (ReadAnswer.Sound d) e =
     let cores : c .head .cores ≡ d .head .cores = ap (λ (f : ReadFigures). f .cores) e in
     let slots : c .head .«per_period» .0 ≡ d .head .«per_period» .0 = ap (λ (f : ReadFigures). f .perPeriod) e in
+    let mark : c .head .repeating ≡ d .head .repeating = ap (λ (f : ReadFigures). f .repeating) e in
     let intervals : c .intervals ≡ d .intervals = ap (λ (f : ReadFigures). f .intervals) e in
     let workloads : c .workloads ≡ d .workloads = ap (λ (f : ReadFigures). f .workloads) e in
-    λ i. ReadAnswer.Sound (record { head = record { cores = cores i; «per_period» = record { 0 = slots i } }; intervals = intervals i; workloads = workloads i })
+    λ i.
+    ReadAnswer.Sound
+    (record {
+      head = record { cores = cores i; «per_period» = record { 0 = slots i }; repeating = mark i };
+      intervals = intervals i;
+      workloads = workloads i;
+    })
 read-figures-one (ReadAnswer.Sound c) (ReadAnswer.Refused f at) e = absurd (omega (arith, some-number f, ap (λ (g : ReadFigures). g .refused) e))
 read-figures-one (ReadAnswer.Refused f at) (ReadAnswer.Sound c) e = absurd (omega (arith, some-number f, ap (λ (g : ReadFigures). g .refused) e))
 read-figures-one (ReadAnswer.Refused f at) (ReadAnswer.Refused g there) e =

@@ -5,7 +5,7 @@ use Prim.Native.Nat.{ℕ, zero, suc, _+_, _≤_, _<_}
 use native.Mathlib.Nat.{le-of-suc-le-suc, not-suc-le-zero, add-zero, zero-add}
 use native.Mathlib.Omega.{arith}
 use lib.ListN.{length, getD}
-use Rattle.meaning.specs.Plan.{Plan, Workload, rows, periods, budgetOf, intervalAt, inForce}
+use Rattle.meaning.specs.Plan.{Plan, Workload, rows, mostSpan, budgetOf, intervalAt, inForce}
 use Rattle.meaning.specs.Curve.{raw}
 use Rattle.meaning.specs.Run.{Period, used, Allowed, LawfulFrom, computed, requested, Lawful, EndsWithin}
 use Rattle.meaning.specs.Promises.{SpanFigures, SpanPromise}
@@ -21,7 +21,7 @@ idle = record { computing = 0; requests = 0; stall = 0 }
 
 -- a lawful run, by the number of each period
 pub record LawfulByNumber (p : Plan) (w : Workload) (run : List Period) : Type 0 where
-  pub within : length run ≤ periods p
+  pub within : length run ≤ mostSpan p
   pub budget : (k : ℕ) → k < length run → getD run k idle .requests ≤ budgetOf (w .core) (rowOf p k)
   pub stalled : (k : ℕ) → k < length run → getD run k idle .stall ≤ raw (p .perPeriod) (rowOf p k) (w .core) (getD run k idle .requests)
   pub whole : (k : ℕ) → suc k < length run → used (getD run k idle) ≡ p .perPeriod

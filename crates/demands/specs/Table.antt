@@ -1,5 +1,6 @@
--- The table P1 to P10 of document 01, under one proved statement over the definitions.
+-- The table P1 to P10 of document 01, with the numbers worked for the requests of document 02, under one proved statement over the definitions.
 use mathlib.Core.Path.{_≡_, refl}
+use mathlib.Core.Bool.{true, false}
 use mathlib.Core.List.{List, [], _∷_}
 use Prim.Native.Nat.{ℕ}
 use lib.ListN.{length}
@@ -17,7 +18,7 @@ use Rattle.placement_laws.specs.OrderMerged.{orderTo, merged, weave, picksFrom}
 use Rattle.span_laws.specs.SearchFinds.{sought, oneMore}
 use Rattle.span_laws.specs.WorkedAnswers.{covered, cornersRight, envelopeRight, curvesRight, envelope-checked, claim-answer, claim-placement}
 use Rattle.span_laws.specs.WorkedAnswers.{claim-next}
-use Rattle.demands.specs.Worked.{examplePlan}
+use Rattle.demands.specs.Worked.{exampleMarked, examplePlan}
 
 infixr 10 _also_
 -- a row: the raw stalls and the corners of a core with budgets 2, 2, 5, 7 and Q = 16; or a workload on a plan and its answer; or its terms; or a placement at a given W and its stall
@@ -33,11 +34,11 @@ budgets = 2 ∷ 2 ∷ 5 ∷ 7 ∷ []
 
 -- one interval of 20 periods
 abbrev pub plan : Plan
-plan = record { cores = 4; perPeriod = 16; lengths = 20 ∷ []; budgets = budgets }
+plan = record { cores = 4; perPeriod = 16; repeating = false; lengths = 20 ∷ []; budgets = budgets }
 
 -- one core, Q 16, budget 16
 abbrev pub alone : Plan
-alone = record { cores = 1; perPeriod = 16; lengths = 20 ∷ []; budgets = 16 ∷ [] }
+alone = record { cores = 1; perPeriod = 16; repeating = false; lengths = 20 ∷ []; budgets = 16 ∷ [] }
 
 -- the three intervals of 004's section VI
 abbrev pub three : Plan
@@ -45,6 +46,7 @@ three =
     record {
       cores = 4;
       perPeriod = 16;
+      repeating = false;
       lengths = 5 ∷ 3 ∷ 7 ∷ [];
       budgets = 2 ∷ 2 ∷ 5 ∷ 7 ∷ 2 ∷ 3 ∷ 7 ∷ 4 ∷ 5 ∷ 5 ∷ 1 ∷ 5 ∷ [];
     }
@@ -55,9 +57,18 @@ same =
     record {
       cores = 4;
       perPeriod = 16;
+      repeating = false;
       lengths = 1 ∷ 1 ∷ 1 ∷ [];
       budgets = 2 ∷ 2 ∷ 5 ∷ 7 ∷ 2 ∷ 2 ∷ 5 ∷ 7 ∷ 2 ∷ 2 ∷ 5 ∷ 7 ∷ [];
     }
+
+-- the listing's plan, repeating
+abbrev pub listingRepeats : Plan
+listingRepeats = exampleMarked true
+
+-- one interval of one period with the budgets of the table, repeating
+abbrev pub oneRepeats : Plan
+oneRepeats = record { cores = 4; perPeriod = 16; repeating = true; lengths = 1 ∷ []; budgets = budgets }
 
 -- a workload: core, computing, requests, horizon
 abbrev pub load : ℕ → ℕ → ℕ → ℕ → Workload
@@ -105,6 +116,18 @@ table =
     ∷ placementRow same 3 9 3 23 (5 ∷ 2 ∷ 2 ∷ [])
     -- P4's work at W = 9: 82 1/3, rounded up
     ∷ placementRow plan 3 35 9 83 (35 ∷ [])
+    -- 2026-01: the listing's plan repeating, and what the plain plan answers
+    ∷ spanRow listingRepeats (load 3 10 10 5) (given 4 30 3) (2 ∷ 8 ∷ [])
+    ∷ spanRow listingRepeats (load 3 40 35 65_535) (given 12 105 4) (6 ∷ 29 ∷ [])
+    ∷ spanRow listingRepeats (load 3 40 35 11) (noSpanFigures 12) []
+    ∷ spanRow examplePlan (load 3 40 35 65_535) (noSpanFigures 10) []
+    ∷ spanRow examplePlan (load 3 40 35 11) (noSpanFigures 10) []
+    ∷ spanRow listingRepeats (load 3 100 100 65_535) (given 32 300 4) (14 ∷ 86 ∷ [])
+    ∷ placementRow listingRepeats 3 25 12 75 (6 ∷ 19 ∷ [])
+    ∷ placementRow listingRepeats 3 25 65_535 75 (25 ∷ 0 ∷ [])
+    -- one period that repeats: as P4 with H = 20, and 12 with H = 9
+    ∷ spanRow oneRepeats (load 3 40 35 20) (given 10 85 3) (35 ∷ [])
+    ∷ spanRow oneRepeats (load 3 40 35 9) (noSpanFigures 12) []
     ∷ []
 
 -- each number is the next term of the one before it, the first of them that of t
@@ -126,7 +149,8 @@ RowHolds (curveRow core raws corners) =
     × (rates c ≡ corners)
 RowHolds (spanRow p w a xs) = SpanAnswered p w (intervals p) a xs
 RowHolds (termsRow p w terms) = Terms p w terms
-RowHolds (placementRow p core requests n stall xs) = AnsweredAt p core requests n xs stall
+RowHolds (placementRow p core requests n stall xs) =
+    (placementRefusal p core requests n (intervals p) ≡ 0) × AnsweredAt p core requests n xs stall
 
 -- the corners of core 1
 abbrev curve1 : Curve
@@ -201,10 +225,20 @@ table-holds =
     also claim-answer alone (load 1 10 22 20) 1 (whole1 ∷ []) refl refl
     also claim-answer examplePlan (load 3 10 10 5) 2 (curve3 ∷ equal3 ∷ []) refl refl
     also claim-answer examplePlan (load 3 10 10 3) 2 (curve3 ∷ equal3 ∷ []) refl refl
-    also claim-placement three 3 25 6 3 (curve3 ∷ second3 ∷ third3 ∷ []) refl refl
-    also claim-placement plan 4 7 1 1 (curve4 ∷ []) refl refl
-    also claim-placement same 3 9 3 3 (curve3 ∷ curve3 ∷ curve3 ∷ []) refl refl
-    also claim-placement plan 3 35 9 1 (curve3 ∷ []) refl refl
+    also (refl, claim-placement three 3 25 6 3 (curve3 ∷ second3 ∷ third3 ∷ []) refl refl)
+    also (refl, claim-placement plan 4 7 1 1 (curve4 ∷ []) refl refl)
+    also (refl, claim-placement same 3 9 3 3 (curve3 ∷ curve3 ∷ curve3 ∷ []) refl refl)
+    also (refl, claim-placement plan 3 35 9 1 (curve3 ∷ []) refl refl)
+    also claim-answer listingRepeats (load 3 10 10 5) 2 (curve3 ∷ equal3 ∷ []) refl refl
+    also claim-answer listingRepeats (load 3 40 35 65_535) 2 (curve3 ∷ equal3 ∷ []) refl refl
+    also claim-answer listingRepeats (load 3 40 35 11) 2 (curve3 ∷ equal3 ∷ []) refl refl
+    also (refl, refl)
+    also (refl, refl)
+    also claim-answer listingRepeats (load 3 100 100 65_535) 2 (curve3 ∷ equal3 ∷ []) refl refl
+    also (refl, claim-placement listingRepeats 3 25 12 2 (curve3 ∷ equal3 ∷ []) refl refl)
+    also (refl, claim-placement listingRepeats 3 25 65_535 2 (curve3 ∷ equal3 ∷ []) refl refl)
+    also claim-answer oneRepeats (load 3 40 35 20) 1 (curve3 ∷ []) refl refl
+    also claim-answer oneRepeats (load 3 40 35 9) 1 (curve3 ∷ []) refl refl
     also tt
 
 -- 004: core 3's envelope, with corners 0, 2, 5 and stalls 0, 6, 11 there, gives 9 periods with 35 requests a stall of 82 1/3

@@ -1,9 +1,11 @@
--- Numbers worked by hand in document 01 that the definitions compute by themselves.
+-- Numbers worked by hand in document 01, and for the requests of document 02, that the definitions compute by themselves.
 use mathlib.Core.Path.{_≡_, refl}
-use mathlib.Core.List.{List, [], _∷_}
+use mathlib.Core.Bool.{Bool, true, false}
+use mathlib.Core.List.{List, [], _∷_, map}
 use Prim.Native.Nat.{ℕ}
 use Rattle.meaning.specs.Plan.{Plan, rowsOf}
-use Rattle.meaning.specs.Refusals.{planRefusal, intervalsRefusal, coreRefusal, withoutBudget, cornersRefusal}
+use Rattle.meaning.specs.Placement.{shares, sharesAt}
+use Rattle.meaning.specs.Refusals.{planRefusal, intervalsRefusal, coreRefusal, withoutBudget, cornersRefusal, placementRefusal}
 use Rattle.meaning.specs.PlanFile.{Reading, PlanFile, readFile, headFault, intervalFault, workloadFault, recordFault, readIntervals, readWorkloads, tabulate, listedZero, fileOf, intervalRecords, workloadRecords, maskOf, listedOf}
 use Rattle.meaning.specs.Listing.{digits, spaced, planLine, spanLine, refusedLine, endLine}
 use lib.Count.{ones, onesIn}
@@ -32,15 +34,30 @@ exampleFile =
     ∷ 0x0c ∷ 0 ∷ 3 ∷ 0 ∷ 3 ∷ 0 ∷ 0x0a ∷ 0 ∷ 0 ∷ 0 ∷ 0x0a ∷ 0 ∷ 0 ∷ 0 ∷ 5 ∷ 0
     ∷ 0x0c ∷ 0 ∷ 3 ∷ 0 ∷ 3 ∷ 0 ∷ 0x0a ∷ 0 ∷ 0 ∷ 0 ∷ 0x0a ∷ 0 ∷ 0 ∷ 0 ∷ 3 ∷ 0 ∷ []
 
--- the plan of the listing
-abbrev pub examplePlan : Plan
-examplePlan =
+-- the plan of the listing, with a mark
+abbrev pub exampleMarked : Bool → Plan
+exampleMarked repeating =
     record {
       cores = 4;
       perPeriod = 16;
+      repeating = repeating;
       lengths = 1 ∷ 4 ∷ [];
       budgets = 2 ∷ 2 ∷ 5 ∷ 7 ∷ 4 ∷ 4 ∷ 4 ∷ 4 ∷ [];
     }
+
+-- the plan of the listing
+abbrev pub examplePlan : Plan
+examplePlan = exampleMarked false
+
+-- 2026-01: its shares where it repeats, at W = 10, 11 and 12
+pub repeating-shares : map (sharesAt (exampleMarked true)) (10 ∷ 11 ∷ 12 ∷ []) ≡ (2 ∷ 8 ∷ []) ∷ (3 ∷ 8 ∷ []) ∷ (3 ∷ 9 ∷ []) ∷ []
+unfolding shares
+repeating-shares = refl
+
+-- a placement at W = 0 is 10 there too
+pub repeating-none : placementRefusal (exampleMarked true) 3 25 0 2 ≡ 10
+unfolding placementRefusal planRefusal intervalsRefusal coreRefusal withoutBudget rowsOf
+repeating-none = refl
 
 -- what the file of the listing holds
 abbrev pub exampleContents : PlanFile

@@ -86,10 +86,11 @@ refusal-append perPeriod soFar (l₀ ∷ lengths) (r ∷ rs) l row e =
     (intervalsRefusal perPeriod (soFar + l₀) lengths rs)
     (intervalRefusal perPeriod (soFar + (l₀ + sumOf lengths)) l row)))
 
--- where a sound file was read up to: its head's cores and slots, and intervals that are not refused
+-- where a sound file was read up to: its head's cores and slots, no mark, and intervals that are not refused
 pub record PlanRead (s : List ℕ) (i : ℕ) (p : Plan) : Type 0 where
   pub cores : p .cores ≡ byteAt s 4
   pub slots : p .perPeriod ≡ twoAt s 6
+  pub plain : p .repeating ≡ false
   pub count : length (p .lengths) ≡ i
   pub budgets : length (p .budgets) ≡ length (p .lengths) * p .cores
   pub none : intervalsRefusal (p .perPeriod) 0 (p .lengths) (rows p) ≡ 0
@@ -107,6 +108,7 @@ plan-read s i at p here none =
     record {
       cores = here .cores;
       slots = here .slots;
+      plain = here .plain;
       count = omega (arith, count, here .count);
       budgets =
           omega (
@@ -177,16 +179,26 @@ workload-read s p i at f here =
 pub none-read : (s : List ℕ) → PlanRead s 0 (headPlan s)
 unfolding rowsOf intervalsRefusal
 none-read s =
-    record { cores = refl; slots = refl; count = refl; budgets = sym (zero-mul (byteAt s 4)); none = refl }
+    record {
+      cores = refl;
+      slots = refl;
+      plain = refl;
+      count = refl;
+      budgets = sym (zero-mul (byteAt s 4));
+      none = refl;
+    }
 
 -- before any workload is read, the lists are empty
 pub no-workload-read : (p : Plan) → WorkloadsRead p 0 (record { plan = p; workloads = noWorkloads })
 no-workload-read p = record { plan = refl; analysed = refl; computing = refl; requests = refl; horizons = refl }
 
--- a sound file's plan is not refused, and its lists of workload values are as long as each other, at most 256
-pub sound-file-plan : (s : List ℕ) (f : PlanFile)
-    → readFile s ≡ Reading.sound f
-    → (planRefusal (f .plan) ≡ 0) × RightLists (f .workloads)
+-- a sound file's plan is plain and not refused, and its lists of workload values are as long as each other, at most 256
+pub record SoundFile (f : PlanFile) : Type 0 where
+  pub plan : planRefusal (f .plan) ≡ 0
+  pub plain : f .plan .repeating ≡ false
+  pub lists : RightLists (f .workloads)
+
+pub sound-file-plan : (s : List ℕ) (f : PlanFile) → readFile s ≡ Reading.sound f → SoundFile f
 sound-file-plan s f e =
     let head = file-sound s e in
     let behind =
@@ -213,15 +225,18 @@ sound-file-plan s f e =
     f
     (no-workload-read (behind .plan))
     (behind .reading) in
-    let w = end .holds in (
-      rw (w .plan) (plan-whole s (behind .plan) (sound-head s (head .0)) (rw zero-add at (behind .holds))),
-      record {
-        few = omega (arith, w .analysed, end .few);
-        computing = w .computing ∙ sym (w .analysed);
-        requests = w .requests ∙ sym (w .analysed);
-        horizons = w .horizons ∙ sym (w .analysed);
-      },
-    )
+    let w = end .holds in
+    record {
+      plan = rw (w .plan) (plan-whole s (behind .plan) (sound-head s (head .0)) (rw zero-add at (behind .holds)));
+      plain = rw (w .plan) (behind .holds .plain);
+      lists =
+          record {
+            few = omega (arith, w .analysed, end .few);
+            computing = w .computing ∙ sym (w .analysed);
+            requests = w .requests ∙ sym (w .analysed);
+            horizons = w .horizons ∙ sym (w .analysed);
+          };
+    }
 
 -- two answers that meet the promise of a file that reads so are the same
 reading-unique : (r : Reading) (places : Places) (a b : ReadFigures) (after after′ : Places)

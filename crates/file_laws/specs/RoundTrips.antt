@@ -15,7 +15,7 @@ use Rattle.plan_laws.specs.RefusalOrder.{first-zero, second-zero, both-zero, no
 use Rattle.plan_laws.specs.SoundPlan.{sound-plan}
 use Rattle.file_laws.specs.SoundRecords.{right-lists}
 use Rattle.file_laws.specs.RefusedFiles.{RefusedWithin, refused-within}
-use Rattle.file_laws.specs.FileQuestions.{sound-file-plan}
+use Rattle.file_laws.specs.FileQuestions.{SoundFile, sound-file-plan}
 use Rattle.file_laws.specs.ReadIsWritten.{read-writes}
 
 -- a file that was read without a refusal: what it holds, with the figures and the places after it
@@ -70,7 +70,14 @@ held-back f places count right =
     take-at (w .horizons) (drop (length (w .horizons)) (places .horizons)) (length (w .analysed)) (right .horizons) in
     λ i.
     record {
-      plan = record { cores = p .cores; perPeriod = p .perPeriod; lengths = lengths i; budgets = budgets i };
+      plan =
+          record {
+            cores = p .cores;
+            perPeriod = p .perPeriod;
+            repeating = p .repeating;
+            lengths = lengths i;
+            budgets = budgets i;
+          };
       workloads =
           record { analysed = analysed i; computing = computing i; requests = requests i; horizons = horizons i };
     }
@@ -84,29 +91,33 @@ not-wrong w right =
     (ap not (eq-eqb _ _ (right .requests))))
     (ap not (eq-eqb _ _ (right .horizons)))
 
--- the writer does not refuse a sound plan with right lists, where there is room
+-- the writer does not refuse what a file can hold, where there is room
 writes : (f : PlanFile) (room : ℕ)
-    → planRefusal (f .plan) ≡ 0
-    → RightLists (f .workloads)
+    → SoundFile f
     → length (fileOf f) ≤ room
     → writeRefusal f room ≡ 0
 unfolding writeRefusal
-writes f room plan right enough =
-    both-zero plan
-    (both-zero (not-refused 25 (not-wrong (f .workloads) right)) (not-refused 11 (le-ltb room (length (fileOf f)) enough)))
+writes f room sound enough =
+    both-zero (sound .plan)
+    (both-zero (not-refused 23 (sound .plain))
+    (both-zero
+    (not-refused 25 (not-wrong (f .workloads) (sound .lists)))
+    (not-refused 11 (le-ltb room (length (fileOf f)) enough))))
 
--- what the writer did not refuse has a sound plan and right lists
-writes-sound : (f : PlanFile) (room : ℕ)
-    → writeRefusal f room ≡ 0
-    → (planRefusal (f .plan) ≡ 0) × RightLists (f .workloads)
+-- what the writer did not refuse a file can hold
+writes-sound : (f : PlanFile) (room : ℕ) → writeRefusal f room ≡ 0 → SoundFile f
 unfolding writeRefusal
 writes-sound f room e =
     let last = roomRefusal (length (fileOf f)) room in
     let lists = refusedIf (listsWrong (f .workloads)) 25 in
-    let later = second-zero (planRefusal (f .plan)) (lists before last) e in (
-      first-zero (planRefusal (f .plan)) (lists before last) e,
-      right-lists (f .workloads) (not-broken (listsWrong (f .workloads)) 24 (first-zero lists last later)),
-    )
+    let mark = refusedIf (f .plan .repeating) 23 in
+    let marked = second-zero (planRefusal (f .plan)) (mark before lists before last) e in
+    let later = second-zero mark (lists before last) marked in
+    record {
+      plan = first-zero (planRefusal (f .plan)) (mark before lists before last) e;
+      plain = not-broken (f .plan .repeating) 22 (first-zero mark (lists before last) marked);
+      lists = right-lists (f .workloads) (not-broken (listsWrong (f .workloads)) 24 (first-zero lists last later));
+    }
 
 -- a file that was written: not refused, with its length, from the front of the place
 abbrev Wrote : PlanFile → List ℕ → WriteFigures → List ℕ → Type 0
@@ -136,10 +147,9 @@ wrote-by f place a after none zero e h = (e, h)
 wrote-by f place a after none (suc n) e h =
     absurd (omega (arith, ap (λ (b : WriteFigures). b .refused) (h .0), none))
 
--- what the reader gave of an accepted file is a sound plan with right lists, whose bytes are those of the file
+-- what the reader gave of an accepted file is what a file can hold, and its bytes are those of the file
 pub record ReadBack (file : List ℕ) (f : PlanFile) : Type 0 where
-  pub plan : planRefusal (f .plan) ≡ 0
-  pub lists : RightLists (f .workloads)
+  pub sound : SoundFile f
   pub bytes : fileOf f ≡ file
 
 pub read-back : (file : List ℕ) (places : Places) (a : ReadFigures) (after : Places)
@@ -152,22 +162,21 @@ read-back file places a after bytes h none =
     let f = read .contents in
     let sound = sound-file-plan file f (read .reads) in
     let same : fileHeld a after ≡ f =
-    ap₂ fileHeld (read .figures) (read .filled) ∙ held-back f places (sound-plan (f .plan) (sound .0) .count) (sound .1) in
+    ap₂ fileHeld (read .figures) (read .filled) ∙ held-back f places (sound-plan (f .plan) (sound .plan) .count) (sound .lists) in
     subst (ReadBack file) (sym same)
-    (record { plan = sound .0; lists = sound .1; bytes = read-writes file f bytes (read .reads) })
+    (record { sound = sound; bytes = read-writes file f bytes (read .reads) })
 
--- a sound plan with right lists is written, where there is room
+-- what a file can hold is written, where there is room
 pub file-written : (f : PlanFile) (place : List ℕ) (a : WriteFigures) (after : List ℕ)
-    → planRefusal (f .plan) ≡ 0
-    → RightLists (f .workloads)
+    → SoundFile f
     → length (fileOf f) ≤ length place
     → WritePromise f place a after
     → (a ≡ record { refused = 0; bytes = length (fileOf f) }) × (take (length (fileOf f)) after ≡ fileOf f)
-file-written f place a after plan lists room h =
-    let given = wrote f place a after (writes f (length place) plan lists room) h in
+file-written f place a after sound room h =
+    let given = wrote f place a after (writes f (length place) sound room) h in
     (given .0, ap (take (length (fileOf f))) (given .1) ∙ take-append-seam (fileOf f) (drop (length (fileOf f)) place))
 
--- what the writer wrote is the file of a sound plan with right lists
+-- what the writer wrote is the file of what a file can hold
 pub written-front : (f : PlanFile) (place : List ℕ) (a : WriteFigures) (after : List ℕ)
     → WritePromise f place a after
     → a .refused ≡ 0
@@ -178,7 +187,7 @@ written-front f place a after h none =
     let front : take (a .bytes) after ≡ fileOf f =
     ap₂ (λ (n : ℕ) (s : List ℕ). take n s) (ap (λ (c : WriteFigures). c .bytes) (given .1 .0)) (given .1 .1)
     ∙ take-append-seam (fileOf f) (drop (length (fileOf f)) place) in
-    record { plan = sound .0; lists = sound .1; bytes = sym front }
+    record { sound = sound; bytes = sym front }
 
 -- a file that reads so fills the places with it, where it fits
 pub file-read : (file : List ℕ) (f : PlanFile) (places : Places) (b : ReadFigures) (out : Places)

@@ -1,6 +1,6 @@
 -- A plan that is written reads back to the same plan and workloads.
 use mathlib.Core.Path.{_≡_, refl, sym, ap, ap₂, _∙_}
-use mathlib.Core.Bool.{false, not, _||_}
+use mathlib.Core.Bool.{Bool, false, not, _||_}
 use mathlib.Core.List.{List, [], _∷_, _++_, append-assoc, append-nil}
 use Prim.Native.Nat.{ℕ, zero, suc, _+_, _*_, _≤_, _<_}
 use native.Mathlib.Nat.{add-zero, zero-add, add-assoc, zero-mul, suc-mul}
@@ -12,7 +12,7 @@ use lib.Count.{ones, ones-le}
 use borrow.Author.Tests.{ne-eqb}
 use Rattle.meaning.specs.Plan.{Plan, sumOf, intervals, rowsOf, rows, mostWorkloads, All}
 use Rattle.meaning.specs.Refusals.{_before_, refusedIf, coresRefusal, perPeriodRefusal, intervalsOutside, intervalRefusal, intervalsRefusal, planRefusal}
-use Rattle.meaning.specs.PlanFile.{Reading, PlanFile, Workloads, withWorkload, noWorkloads, readFile, readWorkloads, workloadRecords, fileOf, twoBytes, byteAt, twoAt, fourAt, listedAt, rowAt, listedZero, readIntervals, maskOf, listedOf, intervalRecords, RightLists, Widths}
+use Rattle.meaning.specs.PlanFile.{Reading, PlanFile, Workloads, withWorkload, noWorkloads, readFile, readWorkloads, workloadRecords, fileOf, twoBytes, byteAt, twoAt, fourAt, listedAt, rowAt, listedZero, readIntervals, maskOf, listedOf, intervalRecords, Widths}
 use Rattle.number_laws.specs.Lists.{sum-append}
 use Rattle.plan_laws.specs.RefusalOrder.{first-zero, second-zero}
 use Rattle.plan_laws.specs.SoundPlan.{SoundPlan, sound-plan, SoundInterval, sound-interval}
@@ -21,6 +21,7 @@ use Rattle.file_laws.specs.RecordBytes.{headBytes, intervalBytes, interv
 use Rattle.file_laws.specs.RowsByMask.{row-by, row-back, listed-nonzero}
 use Rattle.file_laws.specs.SoundRecords.{SoundHead, head-sound, SoundIntervalRecord, interval-record-sound, SoundWorkloadRecord, workload-record-sound}
 use Rattle.file_laws.specs.ReadingSteps.{head-passed, interval-passed, workload-passed, workloads-ended}
+use Rattle.file_laws.specs.FileQuestions.{SoundFile}
 use Rattle.file_laws.specs.ReadIsWritten.{nil-of}
 
 -- what stands behind a front, at an index from there
@@ -149,21 +150,21 @@ small-row [] h = tt
 small-row (b ∷ row) h = (omega arith, small-row row (omega arith))
 
 -- a plan by its parts
-abbrev planWith : ℕ → ℕ → List ℕ → List ℕ → Plan
-planWith m perPeriod lengths budgets =
-    record { cores = m; perPeriod = perPeriod; lengths = lengths; budgets = budgets }
+abbrev planWith : ℕ → ℕ → Bool → List ℕ → List ℕ → Plan
+planWith m perPeriod repeating lengths budgets =
+    record { cores = m; perPeriod = perPeriod; repeating = repeating; lengths = lengths; budgets = budgets }
 
 -- an interval record behind a front is read, and the next behind it
-interval-step : (k : ℕ) (s front rest done earlier row : List ℕ) (m perPeriod l : ℕ)
+interval-step : (k : ℕ) (s front rest done earlier row : List ℕ) (m perPeriod : ℕ) (repeating : Bool) (l : ℕ)
     → s ≡ front ++ (intervalBytes l row ++ rest)
     → length row ≡ m
     → m ≤ 8
     → perPeriod < 65_536
     → SoundInterval perPeriod (sumOf done) l row
-    → readIntervals (suc k) s (length front) (planWith m perPeriod done earlier)
-    ≡ readIntervals k s (length (front ++ intervalBytes l row)) (planWith m perPeriod (done ++ (l ∷ [])) (earlier ++ row))
-interval-step k s front rest done earlier row m perPeriod l whole count few slots sound =
-    let p = planWith m perPeriod done earlier in
+    → readIntervals (suc k) s (length front) (planWith m perPeriod repeating done earlier)
+    ≡ readIntervals k s (length (front ++ intervalBytes l row)) (planWith m perPeriod repeating (done ++ (l ∷ [])) (earlier ++ row))
+interval-step k s front rest done earlier row m perPeriod repeating l whole count few slots sound =
+    let p = planWith m perPeriod repeating done earlier in
     let small = small-row row (omega (arith, sound .sum)) in
     let cores : length row ≤ 8 = omega arith in
     let short : l < 65_536 = omega (arith, sound .total) in
@@ -194,25 +195,25 @@ unfolding intervalRecords intervalBytes
 records-cons l lengths row rs = refl
 
 -- interval records behind a front are read one after the other
-intervals-read : (s : List ℕ) (m perPeriod : ℕ) (lengths budgets front rest done earlier : List ℕ)
+intervals-read : (s : List ℕ) (m perPeriod : ℕ) (repeating : Bool) (lengths budgets front rest done earlier : List ℕ)
     → m ≤ 8
     → perPeriod < 65_536
     → s ≡ front ++ (intervalRecords lengths (rowsOf m lengths budgets) ++ rest)
     → length budgets ≡ length lengths * m
     → intervalsRefusal perPeriod (sumOf done) lengths (rowsOf m lengths budgets) ≡ 0
-    → readIntervals (length lengths) s (length front) (planWith m perPeriod done earlier)
+    → readIntervals (length lengths) s (length front) (planWith m perPeriod repeating done earlier)
     ≡ readIntervals
     0
     s
     (length (front ++ intervalRecords lengths (rowsOf m lengths budgets)))
-    (planWith m perPeriod (done ++ lengths) (earlier ++ budgets))
+    (planWith m perPeriod repeating (done ++ lengths) (earlier ++ budgets))
 unfolding rowsOf intervalsRefusal
-intervals-read s m perPeriod [] budgets front rest done earlier few slots whole count none =
+intervals-read s m perPeriod repeating [] budgets front rest done earlier few slots whole count none =
     let nothing = nil-of budgets (count ∙ zero-mul m) in
     let at = ap (λ (x : List ℕ). length (front ++ x)) (records-none []) ∙ ap length (append-nil front) in
     let b = ap (λ (x : List ℕ). earlier ++ x) nothing ∙ append-nil earlier in
-    sym (λ i. readIntervals 0 s (at i) (planWith m perPeriod (append-nil done i) (b i)))
-intervals-read s m perPeriod (l ∷ lengths) budgets front rest done earlier few slots whole count none =
+    sym (λ i. readIntervals 0 s (at i) (planWith m perPeriod repeating (append-nil done i) (b i)))
+intervals-read s m perPeriod repeating (l ∷ lengths) budgets front rest done earlier few slots whole count none =
     let row = take m budgets in
     let bytes = intervalBytes l row in
     let later = rowsOf m lengths (drop m budgets) in
@@ -233,11 +234,12 @@ intervals-read s m perPeriod (l ∷ lengths) budgets front rest done earlier few
     let unrefused = rw total at (second-zero given following none) in
     let at = ap length (append-assoc front bytes records ∙ ap (λ (x : List ℕ). front ++ x) (sym first)) in
     let b = append-assoc earlier row (drop m budgets) ∙ ap (λ (x : List ℕ). earlier ++ x) (take-append-drop m budgets) in
-    interval-step (length lengths) s front (records ++ rest) done earlier row m perPeriod l here cores few slots sound
+    interval-step (length lengths) s front (records ++ rest) done earlier row m perPeriod repeating l here cores few slots sound
     ∙ intervals-read
     s
     m
     perPeriod
+    repeating
     lengths
     (drop m budgets)
     (front ++ bytes)
@@ -249,7 +251,7 @@ intervals-read s m perPeriod (l ∷ lengths) budgets front rest done earlier few
     there
     left
     unrefused
-    ∙ (λ i. readIntervals 0 s (at i) (planWith m perPeriod (append-assoc done (l ∷ []) lengths i) (b i)))
+    ∙ (λ i. readIntervals 0 s (at i) (planWith m perPeriod repeating (append-assoc done (l ∷ []) lengths i) (b i)))
 
 four-behind : (front rest : List ℕ) (i : ℕ) → fourAt (front ++ rest) (length front + i) ≡ fourAt rest i
 four-behind front rest i =
@@ -434,6 +436,7 @@ head-written f plan =
 -- the intervals of a written file are read up to its workloads
 intervals-written : (f : PlanFile)
     → planRefusal (f .plan) ≡ 0
+    → f .plan .repeating ≡ false
     → readFile (fileOf f)
     ≡ readIntervals
     0
@@ -443,7 +446,7 @@ intervals-written : (f : PlanFile)
     ++ intervalRecords (f .plan .lengths) (rows (f .plan))))
     (f .plan)
 unfolding fileOf headBytes
-intervals-written f e =
+intervals-written f e plain =
     let p = f .plan in
     let w = f .workloads in
     let plan = sound-plan p e in
@@ -452,11 +455,12 @@ intervals-written f e =
     let head = headBytes (p .cores) (p .perPeriod) (length (p .lengths)) in
     let records = workloadRecords (w .analysed) (w .computing) (w .requests) (w .horizons) in
     head-passed (fileOf f) (head-sound (fileOf f) (head-written f plan))
-    ∙ (λ i. readIntervals (number i) (fileOf f) 10 (planWith (p .cores) (slots i) [] []))
+    ∙ (λ i. readIntervals (number i) (fileOf f) 10 (planWith (p .cores) (slots i) (sym plain i) [] []))
     ∙ intervals-read
     (fileOf f)
     (p .cores)
     (p .perPeriod)
+    (p .repeating)
     (p .lengths)
     (p .budgets)
     head
@@ -469,18 +473,14 @@ intervals-written f e =
     (plan .count)
     (intervals-unrefused p e)
 
--- a plan that is not refused, with right lists of workload values within their widths, is read back from its file
-pub written-reads : (f : PlanFile)
-    → planRefusal (f .plan) ≡ 0
-    → RightLists (f .workloads)
-    → Widths (f .workloads)
-    → readFile (fileOf f) ≡ Reading.sound f
+-- what a file can hold, with workload values within their widths, is read back from its file
+pub written-reads : (f : PlanFile) → SoundFile f → Widths (f .workloads) → readFile (fileOf f) ≡ Reading.sound f
 unfolding readIntervals fileOf headBytes
-written-reads f e lists widths =
+written-reads f sound widths =
     let p = f .plan in
     let w = f .workloads in
     let head = headBytes (p .cores) (p .perPeriod) (length (p .lengths)) in
-    intervals-written f e
+    intervals-written f (sound .plan) (sound .plain)
     ∙ workloads-read
     mostWorkloads
     (fileOf f)
@@ -491,11 +491,11 @@ written-reads f e lists widths =
     (w .horizons)
     p
     noWorkloads
-    (lists .few)
+    (sound .lists .few)
     refl
-    (lists .computing)
-    (lists .requests)
-    (lists .horizons)
+    (sound .lists .computing)
+    (sound .lists .requests)
+    (sound .lists .horizons)
     (widths .computing)
     (widths .requests)
     (widths .horizons)

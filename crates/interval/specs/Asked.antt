@@ -1,7 +1,7 @@
 -- The two one-interval questions, judged: what a sound interval gives the functions of `curve`, and what each answer promises.
 use mathlib.Core.Path.{_≡_, refl, sym, ap, _∙_}
 use mathlib.Core.Bool.{true, false, cond}
-use mathlib.Core.List.{List}
+use mathlib.Core.List.{List, [], _∷_}
 use Prim.Native.Nat.{ℕ, _-_, _≤_, _<_}
 use native.Mathlib.Omega.{arith}
 use lib.ListN.{length, take, replicate, length-map}
@@ -14,7 +14,9 @@ use Rattle.meaning.specs.Refusals.{_before_, refusedIf, planRefusal, coreRefusa
 use Rattle.meaning.specs.Promises.{RawPromise, CornersFigures, cornersInRoom, CornersPromise, written}
 use Rattle.plan_laws.specs.RefusalOrder.{before-assoc, judged-refused}
 use Rattle.curve_laws.specs.CurveQuestions.{sound-one}
+use Rattle.units.specs.Given.{planOf}
 use Rattle.units.specs.Refusals.{numberOf}
+use Rattle.units.specs.declared.Head.{Head}
 use Rattle.units.specs.declared.Refusal.{Refusal}
 use Rattle.judge.specs.Judged.{CoreJudged, refused-before}
 use Rattle.judge.specs.declared.Judgement.{Judgement}
@@ -28,15 +30,17 @@ OneJudged m perPeriod budgets core (Judgement.Sound t) =
     (cornersRefusal m perPeriod budgets core ≡ 0) × Interval perPeriod core budgets
 OneJudged m perPeriod budgets core (Judgement.Refused f) = cornersRefusal m perPeriod budgets core ≡ numberOf f
 
--- the judgement of the plan that has this one interval
-pub one-judged : (m perPeriod : ℕ) (budgets : List ℕ) (core : ℕ) (j : Judgement)
-    → CoreJudged (oneInterval m perPeriod budgets) core j
-    → OneJudged m perPeriod budgets core j
-unfolding cornersRefusal
-one-judged m perPeriod budgets core (Judgement.Sound t) h =
+-- the judgement of the plan that has this one interval; a mark is not judged
+pub one-judged : (head : Head) (budgets : List ℕ) (core : ℕ) (j : Judgement)
+    → CoreJudged (planOf head (1 ∷ []) budgets) core j
+    → OneJudged (head .cores) (head .«per_period» .0) budgets core j
+unfolding cornersRefusal planRefusal coreRefusal
+one-judged head budgets core (Judgement.Sound t) h =
+    let m = head .cores in
+    let perPeriod = head .«per_period» .0 in
     let s = sound-one m perPeriod budgets core (h .0) in
     (h .0, interval-of m perPeriod core budgets (s .cores) (s .fewCores) (s .sum) (s .fewSlots) (s .first) (s .last))
-one-judged m perPeriod budgets core (Judgement.Refused f) h = h
+one-judged head budgets core (Judgement.Refused f) h = h
 
 module _ (m perPeriod : ℕ) (budgets : List ℕ) (core r : ℕ) where
   -- raw stall at r is refused as the interval and the core are

@@ -73,8 +73,8 @@ sized-fits : (s : List ℕ) (f : PlanFile) (places : Places)
     → fits f places ≡ true
 sized-fits s f places e sized =
     let sound = sound-file-plan s f e in
-    let plan = sound-plan (f .plan) (sound .0) in
-    let lists = sound .1 in
+    let plan = sound-plan (f .plan) (sound .plan) in
+    let lists = sound .lists in
     let numbers : length (f .plan .budgets) ≤ mostIntervals * mostCores =
     rw (plan .count) (mul-le-mul (plan .fewIntervals) (plan .fewCores)) in
     rw (
@@ -102,8 +102,8 @@ found-file s after c read =
     let given = accepted s places (readFigures (ReadAnswer.Sound c)) after (read .promised) refl in
     let f = given .contents in
     let sound = sound-file-plan s f (given .reads) in
-    let plan = sound-plan (f .plan) (sound .0) in
-    let lists = sound .1 in
+    let plan = sound-plan (f .plan) (sound .plan) in
+    let lists = sound .lists in
     let same = given .figures in
     let intervals : length (f .plan .lengths) ≡ c .intervals = ap (λ (a : ReadFigures). a .intervals) (sym same) in
     let cores : f .plan .cores ≡ c .head .cores = ap (λ (a : ReadFigures). a .cores) (sym same) in

@@ -35,10 +35,10 @@ line-within text true before after {n} p kept =
     omega (arith, whole, length-drop (length text) before)
 line-within text false before after {n} p kept = let never : _≡_ {A = ℕ} 0 1 = cc (p .0) in absurd (omega arith)
 
--- the plan's line, which shows no budgets
+-- the plan's line, which shows no mark and no budgets
 abbrev pub planText : ℕ → ℕ → List ℕ → List ℕ
 planText m perPeriod lengths =
-    planLine (record { cores = m; perPeriod = perPeriod; lengths = lengths; budgets = [] })
+    planLine (record { cores = m; perPeriod = perPeriod; repeating = false; lengths = lengths; budgets = [] })
 
 -- it is the line of any plan with these cores, slots per period and lengths
 pub plan-text : (p : Plan) → planText (p .cores) (p .perPeriod) (p .lengths) ≡ planLine p

@@ -18,7 +18,13 @@ until w h = record { core = w .core; computing = w .computing; requests = w .req
 -- the plan with these intervals and their budgets added behind
 abbrev pub longer : Plan → List ℕ → List ℕ → Plan
 longer p ls bs =
-    record { cores = p .cores; perPeriod = p .perPeriod; lengths = p .lengths ++ ls; budgets = p .budgets ++ bs }
+    record {
+      cores = p .cores;
+      perPeriod = p .perPeriod;
+      repeating = p .repeating;
+      lengths = p .lengths ++ ls;
+      budgets = p .budgets ++ bs;
+    }
 
 -- a 0 for each interval
 abbrev pub zerosFor : List ℕ → List ℕ

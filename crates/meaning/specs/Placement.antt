@@ -2,9 +2,9 @@
 use mathlib.Core.Path.{_≡_}
 use mathlib.Core.Logic.{_⊎_}
 use mathlib.Core.List.{List, [], _∷_}
-use Prim.Native.Nat.{ℕ, _-_, _*_, _≤_, _<_, min}
+use Prim.Native.Nat.{ℕ, _+_, _-_, _*_, _≤_, _<_, min}
 use Rattle.meaning.specs.Fraction.{Fraction, whole, _≤ᶠ_, _+ᶠ_, roundUp}
-use Rattle.meaning.specs.Plan.{Plan, sumOf, rows}
+use Rattle.meaning.specs.Plan.{Plan, sumOf, rows, fullCycles, inCycle}
 use Rattle.meaning.specs.Curve.{Curve, limit, EnvelopeOf, intervalStall}
 
 -- an interval's share w of the span, and its curve
@@ -12,14 +12,14 @@ pub record Part : Type 0 where
   pub share : ℕ
   pub curve : Curve
 
--- of W periods each interval gets its own length, or what is left of W, or 0 (004, equation 1)
-unfoldable pub shares : ℕ → List ℕ → List ℕ
-shares w [] = []
-shares w (l ∷ ls) = min l w ∷ shares (w - l) ls
+-- each interval gets its length once for each full cycle plus its part of the last one: its own length, or what is left of the last cycle's periods, or 0 (004, equation 1)
+unfoldable pub shares : ℕ → ℕ → List ℕ → List ℕ
+shares cycles w [] = []
+shares cycles w (l ∷ ls) = (cycles * l + min l w) ∷ shares cycles (w - l) ls
 
 -- the shares of a plan's intervals at W: the one place where a plan's shares are made
 abbrev pub sharesAt : Plan → ℕ → List ℕ
-sharesAt p w = shares w (p .lengths)
+sharesAt p w = shares (fullCycles p w) (inCycle p w) (p .lengths)
 
 -- the parts are these shares with the envelopes of these budgets
 abbrev pub PartsOf : ℕ → ℕ → List ℕ → List (List ℕ) → List Part → Type 0

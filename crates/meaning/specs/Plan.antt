@@ -1,7 +1,7 @@
 -- Units and bounds: a plan of budgets, and a workload on one of its cores.
 use mathlib.Core.List.{List, [], _∷_}
-use mathlib.Core.Bool.{cond}
-use Prim.Native.Nat.{ℕ, suc, _+_, _-_}
+use mathlib.Core.Bool.{Bool, cond}
+use Prim.Native.Nat.{ℕ, suc, _+_, _-_, _/_, _%_}
 use lib.ListN.{length, getD, take, drop}
 use lib.Dec.{ltb}
 
@@ -17,7 +17,7 @@ mostPerPeriod = 65_535
 abbrev pub mostIntervals : ℕ
 mostIntervals = 64
 
--- all periods together: T of at most 65,535
+-- all periods together: T of at most 65,535; so many a horizon, a given W or a run has at most, also where the plan repeats
 abbrev pub mostPeriods : ℕ
 mostPeriods = 65_535
 
@@ -34,10 +34,11 @@ abbrev pub All : {A : Type 0} → (A → Type 0) → List A → Type 0
 All P [] = Unit {0}
 All P (a ∷ l) = P a × All P l
 
--- cores m, slots per period Q, the periods of each interval, and the budgets, interval by interval, core 1 first
+-- cores m, slots per period Q, the mark of a plan that starts over each cycle, the periods of each interval, and the budgets, interval by interval, core 1 first
 pub record Plan : Type 0 where
   pub cores : ℕ
   pub perPeriod : ℕ
+  pub repeating : Bool
   pub lengths : List ℕ
   pub budgets : List ℕ
 
@@ -57,13 +58,25 @@ sumOf (n ∷ ns) = n + sumOf ns
 abbrev pub intervals : Plan → ℕ
 intervals p = length (p .lengths)
 
--- all periods together, T
+-- all periods together, T: the length of one cycle
 abbrev pub periods : Plan → ℕ
 periods p = sumOf (p .lengths)
 
--- the most periods that a horizon, a given W or a run has: T
+-- the most periods that a horizon, a given W or a run has, by the mark and T: T, and 65,535 where the plan repeats
+abbrev pub spanLimit : Bool → ℕ → ℕ
+spanLimit repeating total = cond repeating mostPeriods total
+
+-- that of a plan
 abbrev pub mostSpan : Plan → ℕ
-mostSpan p = periods p
+mostSpan p = spanLimit (p .repeating) (periods p)
+
+-- the full cycles in n periods, so that W = k·T is k of them; a plain plan is not started over
+abbrev pub fullCycles : Plan → ℕ → ℕ
+fullCycles p n = cond (p .repeating) (n / periods p) 0
+
+-- what is left of n periods for the last cycle, so that W = k·T has no part of it; also the place in its cycle of period n, both from 0
+abbrev pub inCycle : Plan → ℕ → ℕ
+inCycle p n = cond (p .repeating) (n % periods p) n
 
 -- m budgets for each of the intervals, in order
 unfoldable pub rowsOf : ℕ → List ℕ → List ℕ → List (List ℕ)
@@ -83,9 +96,9 @@ unfoldable pub intervalOf : List ℕ → ℕ → ℕ
 intervalOf [] k = 0
 intervalOf (l ∷ ls) k = let later = suc (intervalOf ls (k - l)) in cond (ltb k l) 0 later
 
--- the interval of a plan's period k
+-- the interval of a plan's period k, where a repeating plan follows the cycle
 abbrev pub intervalAt : Plan → ℕ → ℕ
-intervalAt p k = intervalOf (p .lengths) k
+intervalAt p k = intervalOf (p .lengths) (inCycle p k)
 
 -- the budgets in force in period k
 abbrev pub inForce : Plan → ℕ → List ℕ

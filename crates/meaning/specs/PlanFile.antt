@@ -104,6 +104,7 @@ withInterval s at p =
     record {
       cores = p .cores;
       perPeriod = p .perPeriod;
+      repeating = p .repeating;
       lengths = p .lengths ++ (twoAt s (at + 6) ∷ []);
       budgets = p .budgets ++ rowAt (p .cores) s at;
     }
@@ -138,9 +139,10 @@ readIntervals (suc k) s at p =
     let later = readIntervals k s (at + 4 + twoAt s at) (withInterval s at p) in
     byFault (intervalFault s at p) at later
 
--- the plan of a head alone
+-- the plan of a head alone: a file can't carry the mark, so it is plain
 abbrev pub headPlan : List ℕ → Plan
-headPlan s = record { cores = byteAt s 4; perPeriod = twoAt s 6; lengths = []; budgets = [] }
+headPlan s =
+    record { cores = byteAt s 4; perPeriod = twoAt s 6; repeating = false; lengths = []; budgets = [] }
 
 -- the reading of a whole file
 unfoldable pub readFile : List ℕ → Reading
@@ -201,10 +203,11 @@ listsWrong w =
     || not (eqb (length (w .requests)) (length (w .analysed)))
     || not (eqb (length (w .horizons)) (length (w .analysed)))
 
--- the writer judges 1 to 5, then 25, then 11
+-- the writer judges 1 to 5, then 23 (the zero byte of a repeating plan's head couldn't be zero), then 25, then 11
 unfoldable pub writeRefusal : PlanFile → ℕ → ℕ
 writeRefusal f room =
     planRefusal (f .plan)
+    before refusedIf (f .plan .repeating) 23
     before refusedIf (listsWrong (f .workloads)) 25
     before roomRefusal (length (fileOf f)) room
 

@@ -110,6 +110,7 @@ pub record ReadFigures : Type 0 where
   pub offset : ℕ
   pub cores : ℕ
   pub perPeriod : ℕ
+  pub repeating : Bool
   pub intervals : ℕ
   pub workloads : ℕ
 
@@ -125,7 +126,7 @@ pub record Places : Type 0 where
 -- the figures of a refused file
 abbrev pub noFileFigures : ℕ → ℕ → ReadFigures
 noFileFigures n offset =
-    record { refused = n; offset = offset; cores = 0; perPeriod = 0; intervals = 0; workloads = 0 }
+    record { refused = n; offset = offset; cores = 0; perPeriod = 0; repeating = false; intervals = 0; workloads = 0 }
 
 -- the figures of a sound file
 abbrev pub fileFigures : PlanFile → ReadFigures
@@ -135,6 +136,7 @@ fileFigures f =
       offset = 0;
       cores = f .plan .cores;
       perPeriod = f .plan .perPeriod;
+      repeating = f .plan .repeating;
       intervals = length (f .plan .lengths);
       workloads = length (f .workloads .analysed);
     }
@@ -159,6 +161,7 @@ fileHeld a places =
           record {
             cores = a .cores;
             perPeriod = a .perPeriod;
+            repeating = a .repeating;
             lengths = take (a .intervals) (places .lengths);
             budgets = take (a .intervals * a .cores) (places .budgets);
           };

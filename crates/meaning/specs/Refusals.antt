@@ -1,5 +1,5 @@
 -- Refusals: which number a question is refused with, in document 01's order; 0 where it is not.
-use mathlib.Core.Bool.{Bool, cond, not, _&&_, _||_}
+use mathlib.Core.Bool.{Bool, false, cond, not, _&&_, _||_}
 use mathlib.Core.List.{List, [], _∷_}
 use Prim.Native.Nat.{ℕ, zero, suc, _+_, _*_}
 use lib.ListN.{length}
@@ -55,7 +55,7 @@ planRefusal p =
 
 -- that core's budget is 0 in some interval
 unfoldable pub withoutBudget : ℕ → List (List ℕ) → Bool
-withoutBudget core [] = Bool.false
+withoutBudget core [] = false
 withoutBudget core (r ∷ rs) = eqb (budgetOf core r) 0 || withoutBudget core rs
 
 -- 6, 7: core not 1..m; that core's budget is 0 in some interval
@@ -70,7 +70,7 @@ computingRefusal computing = refusedIf (outside 1 mostWork computing) 8
 abbrev pub requestsRefusal : ℕ → ℕ
 requestsRefusal requests = refusedIf (outside 0 mostWork requests) 9
 
--- 10: horizon (or given W) not 1..T
+-- 10: horizon (or given W) not 1..T, or 1..65,535 where the plan repeats
 abbrev pub horizonRefusal : Plan → ℕ → ℕ
 horizonRefusal p n = refusedIf (outside 1 (mostSpan p) n) 10
 
@@ -78,9 +78,10 @@ horizonRefusal p n = refusedIf (outside 1 (mostSpan p) n) 10
 abbrev pub roomRefusal : ℕ → ℕ → ℕ
 roomRefusal wanted room = refusedIf (ltb room wanted) 11
 
--- the one-interval questions are asked with one interval of one period
+-- the one-interval questions are asked with one interval of one period, in a plain plan
 abbrev pub oneInterval : ℕ → ℕ → List ℕ → Plan
-oneInterval m perPeriod budgets = record { cores = m; perPeriod = perPeriod; lengths = 1 ∷ []; budgets = budgets }
+oneInterval m perPeriod budgets =
+    record { cores = m; perPeriod = perPeriod; repeating = false; lengths = 1 ∷ []; budgets = budgets }
 
 -- raw stall at r: 1, 2, 3, 5, 6, 7, 13 (r above the budget)
 unfoldable pub rawRefusal : ℕ → ℕ → List ℕ → ℕ → ℕ → ℕ

@@ -1,4 +1,5 @@
-// The numbers that document 01 works by hand, answered by the library, each with what it says. P1 to P10 are proved too (crates/demands).
+// The numbers that document 01 and the requests of document 02 work by hand, answered by the library. P1 to P10 and the requests' numbers
+// are proved too (crates/demands).
 use interval::CornersAnswer;
 use interval::RawAnswer;
 use libc::STDOUT_FILENO;
@@ -15,17 +16,18 @@ use units::Slots;
 use units::Workload;
 use writer::WriteAnswer;
 
-// The head of a plan of four cores with Q = 16.
-fn four_cores() -> Head {
+// The head of a plan of four cores with Q = 16, repeating or plain.
+fn four_cores(repeating: bool) -> Head {
     Head {
         cores: 4,
         per_period: Slots(16),
+        repeating,
     }
 }
 
 // The raw stall of a core at a rate, with Q = 16.
 fn tell_raw(budgets: &[u16], core: u8, rate: Requests) {
-    match interval::raw_stall(four_cores(), budgets, core, rate) {
+    match interval::raw_stall(four_cores(false), budgets, core, rate) {
         RawAnswer::Stall(stall) => tell(stall.0),
         RawAnswer::Refused(refusal) => tell_refused(refusal),
     }
@@ -48,7 +50,7 @@ fn tell_raws(words: &[u8], core: u8, budget: u16) {
 fn tell_corners(words: &[u8], core: u8, rates: &mut [u16]) {
     let budgets = [2u16, 2, 5, 7];
     say(words);
-    match interval::corners(four_cores(), &budgets, core, rates) {
+    match interval::corners(four_cores(false), &budgets, core, rates) {
         CornersAnswer::Count(_) => tell_rates(rates),
         CornersAnswer::Refused(refusal) => tell_refused(refusal),
     }
@@ -64,19 +66,24 @@ fn work(core: u8, computing: u32, requests: u32, horizon: u16) -> Workload {
     }
 }
 
-// A span with budgets 2, 2, 5, 7, Q = 16 and one interval of 20 periods.
-fn span_of_twenty(words: &[u8], workload: Workload) {
-    let lengths = [20u16];
+// A span with budgets 2, 2, 5, 7, Q = 16 and one interval of so many periods, repeating or plain.
+fn span_of_one(words: &[u8], repeating: bool, length: u16, workload: Workload) {
+    let lengths = [length];
     let budgets = [2u16, 2, 5, 7];
     let mut placement = [0u32; 1];
     tell_span(
         words,
-        four_cores(),
+        four_cores(repeating),
         &lengths,
         &budgets,
         workload,
         &mut placement,
     );
+}
+
+// The same with a plain interval of 20 periods.
+fn span_of_twenty(words: &[u8], workload: Workload) {
+    span_of_one(words, false, 20, workload);
 }
 
 // A span of one core that is alone, with Q its budget and one interval as long as the horizon.
@@ -88,22 +95,40 @@ fn span_alone(words: &[u8], budget: u16, workload: Workload) {
     let head = Head {
         cores: 1,
         per_period: Slots(budget as u32),
+        repeating: false,
     };
     tell_span(words, head, &lengths, &budgets, workload, &mut placement);
 }
 
-// A span of the listing's plan, core 3 with computing 10 and 10 requests.
-fn span_of_listing(words: &[u8], horizon: u16) {
+// A span of the listing's plan, repeating or plain.
+fn span_of_listing(words: &[u8], repeating: bool, workload: Workload) {
     let lengths = [1u16, 4];
     let budgets = [2u16, 2, 5, 7, 4, 4, 4, 4];
     let mut placement = [0u32; 2];
     tell_span(
         words,
-        four_cores(),
+        four_cores(repeating),
         &lengths,
         &budgets,
-        work(3, 10, 10, horizon),
+        workload,
         &mut placement,
+    );
+}
+
+// 25 requests of core 3 placed at W on the listing's plan, repeating.
+fn placement_of_listing(words: &[u8], periods: u16) {
+    let lengths = [1u16, 4];
+    let budgets = [2u16, 2, 5, 7, 4, 4, 4, 4];
+    let mut placed = [0u32; 2];
+    tell_placement(
+        words,
+        four_cores(true),
+        &lengths,
+        &budgets,
+        3,
+        Requests(25),
+        Periods(periods),
+        &mut placed,
     );
 }
 
@@ -116,7 +141,7 @@ fn section_six() {
     let requests = Requests(25);
     tell_placement(
         words,
-        four_cores(),
+        four_cores(false),
         &lengths,
         &budgets,
         3,
@@ -135,7 +160,7 @@ fn exact_fraction() {
     let requests = Requests(35);
     tell_placement(
         words,
-        four_cores(),
+        four_cores(false),
         &lengths,
         &budgets,
         3,
@@ -154,7 +179,7 @@ fn rounded_once() {
     let requests = Requests(9);
     tell_placement(
         words,
-        four_cores(),
+        four_cores(false),
         &lengths,
         &budgets,
         3,
@@ -174,6 +199,7 @@ fn unequal_slopes() {
     let head = Head {
         cores: 2,
         per_period: Slots(104),
+        repeating: false,
     };
     tell_placement(
         words,
@@ -198,6 +224,7 @@ fn longest_file(words: &[u8], place: &mut [u8]) {
     let head = Head {
         cores: 8,
         per_period: Slots(8),
+        repeating: false,
     };
     say(words);
     let answer = writer::write(
@@ -251,8 +278,29 @@ fn spans() {
     span_of_twenty(b"P8:", work(1, 1, 1, 20));
     span_of_twenty(b"P8, 2 requests:", work(1, 1, 2, 20));
     span_alone(b"P9:", 16, work(1, 10, 22, 20));
-    span_of_listing(b"P10:", 5);
-    span_of_listing(b"P10, H = 3:", 3);
+    span_of_listing(b"P10:", false, work(3, 10, 10, 5));
+    span_of_listing(b"P10, H = 3:", false, work(3, 10, 10, 3));
+}
+
+// The listing's plan repeating, and one period that repeats (2026-01).
+fn cycles() {
+    let last = Periods::MAX;
+    span_of_listing(b"repeating, P10:", true, work(3, 10, 10, 5));
+    span_of_listing(b"repeating, E 40:", true, work(3, 40, 35, last));
+    span_of_listing(b"repeating, E 40, H = 11:", true, work(3, 40, 35, 11));
+    span_of_listing(b"plain, E 40:", false, work(3, 40, 35, last));
+    span_of_listing(b"plain, E 40, H = 11:", false, work(3, 40, 35, 11));
+    span_of_listing(b"repeating, E 100:", true, work(3, 100, 100, last));
+    placement_of_listing(b"repeating, at W = 12:", 12);
+    placement_of_listing(b"repeating, at W = 65,535:", last);
+    placement_of_listing(b"repeating, at W = 0:", 0);
+    span_of_one(
+        b"one period that repeats, P4:",
+        true,
+        1,
+        work(3, 40, 35, 20),
+    );
+    span_of_one(b"one period that repeats, P5:", true, 1, work(3, 40, 35, 9));
 }
 
 // Computing, requests and the length of a file, at their limits and one past them.
@@ -272,7 +320,7 @@ fn limits() {
     longest_file(b"the longest file in a place of 5,641 bytes:", &mut short);
 }
 
-// All of them, in the order of the document.
+// All of them: document 01's in its order, the requests' before the limits.
 fn main() {
     curves();
     spans();
@@ -280,5 +328,6 @@ fn main() {
     exact_fraction();
     rounded_once();
     unequal_slopes();
+    cycles();
     limits();
 }

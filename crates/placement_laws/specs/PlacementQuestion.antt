@@ -21,7 +21,7 @@ pub record SoundPlacement (p : Plan) (core requests n room : ℕ) : Type 0 where
   pub budgets : SoundCore p core
   pub fewRequests : requests ≤ mostWork
   pub positive : 1 ≤ n
-  pub inPlan : n ≤ mostSpan p
+  pub inLimit : n ≤ mostSpan p
   pub enoughRoom : intervals p ≤ room
 
 -- a placement question without a refusal is sound
@@ -41,7 +41,7 @@ sound-placement p core requests n room e =
       budgets = sound-core p core (first-zero (coreRefusal p core) second cores);
       fewRequests = inside 0 mostWork requests (not-broken (outside 0 mostWork requests) 8 (first-zero (requestsRefusal requests) third asked)) .1;
       positive = within .0;
-      inPlan = within .1;
+      inLimit = within .1;
       enoughRoom = ltb-false room (intervals p) (not-broken (ltb room (intervals p)) 10 (second-zero (horizonRefusal p n) fourth later));
     }
 
@@ -77,7 +77,7 @@ placement-answer-exists p core requests n place =
     (λ number. (record { refused = number; stall = 0 }, place, (refl, refl)))
     (λ e.
     let sound = sound-placement p core requests n (length place) e in
-    let found = answered-exists p core (sound .plan) (sound .budgets) requests (sharesAt p n) (plan-sharing p .many n) in (
+    let found = answered-exists p core (sound .plan) (sound .budgets) requests (sharesAt p n) (plan-sharing p (sound .plan) .many n) in (
       record { refused = 0; stall = found .1 },
       written (found .0) place,
       (found .0, found .1, found .2, refl, refl),

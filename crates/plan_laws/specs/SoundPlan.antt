@@ -1,16 +1,16 @@
 -- A plan is not refused just where it is sound, and so is a core of it; and how a walk over the intervals goes from one to the next.
 use mathlib.Core.Path.{_≡_, refl, ap}
-use mathlib.Core.Bool.{false, not, _||_}
+use mathlib.Core.Bool.{Bool, true, false, not, _||_}
 use mathlib.Core.List.{List, [], _∷_}
 use Prim.Native.Nat.{ℕ, zero, suc, _+_, _-_, _*_, _≤_, _<_, zero-le}
-use native.Mathlib.Nat.{le-of-suc-le-suc, zero-mul, suc-mul, add-comm}
+use native.Mathlib.Nat.{le-refl, le-of-suc-le-suc, not-suc-le-zero, zero-mul, suc-mul, add-comm}
 use native.Mathlib.Numerals.{add-one}
 use native.Mathlib.Omega.{arith}
 use lib.ListN.{length, getD, take, drop, length-take, length-drop}
 use lib.Seq.{drop-drop, drop-cons, getD-take, getD-drop}
 use lib.Dec.{ltb, eqb}
 use borrow.Author.Tests.{ltb-false, eqb-true, eqb-false, not-false, le-ltb, eq-eqb, ne-eqb}
-use Rattle.meaning.specs.Plan.{Plan, sumOf, intervals, periods, rowsOf, rows, budgetOf, All, mostCores, mostPerPeriod, mostIntervals, mostPeriods}
+use Rattle.meaning.specs.Plan.{Plan, sumOf, intervals, periods, spanLimit, mostSpan, rowsOf, rows, budgetOf, All, mostCores, mostPerPeriod, mostIntervals, mostPeriods}
 use Rattle.meaning.specs.Refusals.{refusedIf, _before_, outside, coresRefusal, perPeriodRefusal, intervalsOutside, intervalRefusal, intervalsRefusal, planRefusal, withoutBudget, coreRefusal}
 use Rattle.meaning.specs.Placement.{total}
 use Rattle.plan_laws.specs.RefusalOrder.{first-zero, second-zero, first-bounded, rule-bounded, both-zero, not-broken, not-refused, or-first, or-second, neither, inside, not-outside}
@@ -183,6 +183,23 @@ plan-sound p s =
     (p .lengths)
     (p .budgets)
     (record { lengths = s .lengths; total = omega (arith, s .total); rows = s .rows }))))
+
+-- intervals of a period or more have as many periods together
+some-in-all : (ls : List ℕ) → 1 ≤ length ls → All (λ (l : ℕ). 1 ≤ l) ls → 1 ≤ sumOf ls
+some-in-all [] some all = absurd (not-suc-le-zero some)
+some-in-all (l ∷ ls) some all = omega (arith, all .0)
+
+-- so a sound plan has a period
+pub some-periods : (p : Plan) → SoundPlan p → 1 ≤ periods p
+some-periods p sound = some-in-all (p .lengths) (sound .someIntervals) (sound .lengths)
+
+-- plain or repeating, it has no more periods than any plan
+pub most-span-few : (p : Plan) → SoundPlan p → mostSpan p ≤ mostPeriods
+most-span-few p sound = few (p .repeating)
+  where
+    few : (repeating : Bool) → spanLimit repeating (periods p) ≤ mostPeriods
+    few true = le-refl mostPeriods
+    few false = sound .total
 
 -- what is asked of the core under analysis
 pub record SoundCore (p : Plan) (core : ℕ) : Type 0 where

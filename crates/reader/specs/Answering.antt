@@ -88,7 +88,14 @@ module _ (s : List ℕ) (places : Places) (c : Contents) (found : Found s c) whe
 
   -- the figures of a sound file are the answer's
   figures : readFigures (ReadAnswer.Sound c) ≡ fileFigures (fileWith s (c .workloads))
-  figures = simp (length-tabulate, ← found .headed .values .cores, ← found .headed .values .perPeriod, ← found .headed .intervals)
+  figures =
+      simp (
+        length-tabulate,
+        ← found .headed .values .cores,
+        ← found .headed .values .perPeriod,
+        found .headed .values .plain,
+        ← found .headed .intervals,
+      )
 
   -- a sound file with room is stored from the front of each place
   pub sound-promise : (after : Places)

@@ -1,6 +1,6 @@
 -- What the reader has found after some records, and what its answers say in the paper's numbers.
 use mathlib.Core.Path.{_≡_}
-use mathlib.Core.Bool.{Bool, _&&_}
+use mathlib.Core.Bool.{Bool, false, _&&_}
 use mathlib.Core.List.{List, [], _++_}
 use Prim.Native.Nat.{ℕ, zero, suc, _+_, _*_, _≤_, _<_}
 use lib.ListN.{length}
@@ -23,6 +23,7 @@ readFigures (ReadAnswer.Sound c) =
       offset = 0;
       cores = c .head .cores;
       perPeriod = c .head .«per_period» .0;
+      repeating = c .head .repeating;
       intervals = c .intervals;
       workloads = c .workloads;
     }
@@ -56,6 +57,7 @@ planTo s i =
     record {
       cores = byteAt s 4;
       perPeriod = twoAt s 6;
+      repeating = false;
       lengths = tabulate i (λ k. twoAt s (recordAt s k + 6));
       budgets = budgetsTo s i;
     }

@@ -1,5 +1,6 @@
 -- What the values of a record are in the bytes of the file.
 use mathlib.Core.Path.{_≡_}
+use mathlib.Core.Bool.{false}
 use mathlib.Core.List.{List}
 use Prim.Native.Nat.{ℕ, _+_, _*_, _≤_}
 use lib.ListN.{length}
@@ -8,10 +9,11 @@ use Rattle.meaning.specs.PlanFile.{byteAt, twoAt, fourAt}
 use Rattle.units.specs.declared.Head.{Head}
 use Rattle.units.specs.declared.Workload.{Workload}
 
--- the head of a file
+-- the head of a file, which has no mark
 pub record HeadRead (s : List ℕ) (h : Head) : Type 0 where
   pub cores : h .cores ≡ byteAt s 4
   pub perPeriod : h .«per_period» .0 ≡ twoAt s 6
+  pub plain : h .repeating ≡ false
 
 -- the listed budgets of the interval record at an offset lie within the file
 abbrev pub ListedWithin : List ℕ → ℕ → Type 0

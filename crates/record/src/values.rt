@@ -23,7 +23,7 @@ pub fn behind(file: &[u8], at: usize) -> usize
     at + 4 + two_at(file, at) as usize
 }
 
-// The head of a file.
+// The head of a file: a file can't carry the mark, so it is that of a plain plan.
 pub fn head_at(file: &[u8]) -> Head
     requires { ⌜ 10 ≤ length (now file) ⌝ }
     ensures { λ r. ⌜ HeadRead (now (file .entry)) r ⌝ }
@@ -31,6 +31,7 @@ pub fn head_at(file: &[u8]) -> Head
     Head {
         cores: file[4],
         per_period: Slots(two_at(file, 6) as u32),
+        repeating: false,
     }
 }
 

@@ -129,7 +129,7 @@ module _ (p : Plan) (core : ℕ) (sound : SoundPlan p) where
       record {
         parts = idle .parts;
         placement = zerosFor (p .lengths);
-        ofPlan = subst (λ (ws : List ℕ). PartsOf (p .perPeriod) core ws (rows p) (idle .parts)) (sym (plan-sharing p .none)) (idle .ofRows);
+        ofPlan = subst (λ (ws : List ℕ). PartsOf (p .perPeriod) core ws (rows p) (idle .parts)) (sym (plan-sharing p sound .none)) (idle .ofRows);
         fitting = idle .none;
         sum = zeros-sum (length (p .lengths));
         bound = omega arith;
@@ -143,7 +143,7 @@ module _ (p : Plan) (core : ℕ) (sound : SoundPlan p) where
       → Placed p core (suc k) (d .requests + x) (d .stall + s)
   period-placed k x s d inside allowed h =
       let sums = plan-whole p sound in
-      let sharing = plan-sharing p in
+      let sharing = plan-sharing p sound in
       let met : intervalAt p k < length (rows p) = rw (sound .rowsCount) (sharing .inside k inside) in
       let more =
       one-more (p .perPeriod) core (intervalAt p k) (sharesAt p k) (rows p) (h .parts) (h .placement) d sums (h .ofPlan) met allowed (h .fitting) in

@@ -8,7 +8,7 @@ ghost use Rattle.span_laws.specs.TermsInSlots.{holding};
 ghost use Rattle.units.specs.Units.{periodsOf};
 ghost use Rattle.units.specs.Given.{workloadOf};
 ghost use Rattle.segments.specs.Packed.{between};
-ghost use Rattle.shares.specs.Shares.{sharesGiven};
+ghost use Rattle.shares.specs.Shares.{CycleOf, sharesGiven};
 ghost use Rattle.search.specs.Walked.{Walkable, termAfter};
 ghost use Rattle.search.specs.Searched.{TermsClimb, Searched};
 use units::Head;
@@ -41,14 +41,15 @@ fn next_term(
     picks: &[u64; 512],
     count: usize,
     head: Head,
+    cycle: Periods,
     lengths: &[u16],
     workload: Workload,
     term: Periods,
 ) -> MadePeriods
-    requires { ⌜ (1 ≤ head .«per_period» .0) × (head .«per_period» .0 ≤ mostPerPeriod) × Walkable (length (now lengths)) (now picks) count ⌝ }
+    requires { ⌜ (1 ≤ head .«per_period» .0) × (head .«per_period» .0 ≤ mostPerPeriod) × CycleOf (cycle .0) (now lengths) × Walkable (length (now lengths)) (now picks) count ⌝ }
     ensures { λ r. ⌜ r ≡ periodsOf (termAfter (head .«per_period» .0) (sharesGiven (now (lengths .entry))) (between 0 count (now (picks .entry))) (workloadOf workload) (term .0)) ⌝ }
 {
-    let shares = shares::shares_of(lengths, term);
+    let shares = shares::shares_of(cycle, lengths, term);
     let MadeSlots::Within(stall) = stall::greatest(picks, count, &shares, workload.requests) else {
         return MadePeriods::Outside;
     };
@@ -60,10 +61,11 @@ pub fn search(
     picks: &[u64; 512],
     count: usize,
     head: Head,
+    cycle: Periods,
     lengths: &[u16],
     workload: Workload,
 ) -> Ending
-    requires { ⌜ (1 ≤ head .«per_period» .0) × (head .«per_period» .0 ≤ mostPerPeriod) × Walkable (length (now lengths)) (now picks) count × TermsClimb (head .«per_period» .0) (sharesGiven (now lengths)) (between 0 count (now picks)) (workloadOf workload) ⌝ }
+    requires { ⌜ (1 ≤ head .«per_period» .0) × (head .«per_period» .0 ≤ mostPerPeriod) × CycleOf (cycle .0) (now lengths) × Walkable (length (now lengths)) (now picks) count × TermsClimb (head .«per_period» .0) (sharesGiven (now lengths)) (between 0 count (now picks)) (workloadOf workload) ⌝ }
     ensures { λ r. ⌜ Searched (head .«per_period» .0) (sharesGiven (now (lengths .entry))) (between 0 count (now (picks .entry))) (workloadOf workload) r ⌝ }
 {
     let made = term_for(head.per_period, workload, Slots(0));
@@ -76,8 +78,15 @@ pub fn search(
         if workload.horizon.0 < term.0 {
             break Ending::NoSpan;
         }
-        let MadePeriods::Within(next) = next_term(picks, count, head, lengths, workload, term)
-        else {
+        let MadePeriods::Within(next) = next_term(
+            picks,
+            count,
+            head,
+            cycle,
+            lengths,
+            workload,
+            term,
+        ) else {
             break Ending::NoSpan;
         };
         rounds += 1;

@@ -2,7 +2,8 @@
 use mathlib.Core.Path.{_≡_, refl, sym, subst}
 use mathlib.Core.Logic.{inl, inr}
 use mathlib.Core.List.{List, []}
-use Prim.Native.Nat.{ℕ}
+use Prim.Native.Nat.{ℕ, _≤_}
+use native.Mathlib.Nat.{le-trans}
 use lib.ListN.{length}
 use Rattle.meaning.specs.Plan.{Plan, Workload, intervals}
 use Rattle.meaning.specs.Placement.{sharesAt}
@@ -12,16 +13,17 @@ use Rattle.meaning.specs.Promises.{PlacementPromise, noSpanFigures, SpanGiven, 
 use Rattle.placement_laws.specs.PlacementQuestion.{sound-placement}
 use Rattle.span_laws.specs.SpanQuestion.{SoundSpan, sound-span}
 use Rattle.plan_laws.specs.RefusalOrder.{judged-refused}
-use Rattle.span_laws.specs.TermsInSlots.{first-holding, RisingTerms, terms-rise, reached-span, reached-none}
+use Rattle.span_laws.specs.TermsInSlots.{first-holding, RisingTerms, reached-span, reached-none}
 use Rattle.units.specs.Refusals.{numberOf}
 use Rattle.units.specs.declared.Periods.{Periods}
 use Rattle.units.specs.declared.Refusal.{Refusal}
 use Rattle.judge.specs.Judged.{refused-before}
 use Rattle.segments.specs.Packed.{between}
+use Rattle.shares.specs.Shares.{sharesGiven}
 use Rattle.search.specs.Walked.{placedWith, Gives, termAfter}
 use Rattle.search.specs.Searched.{EndsWith, TermsClimb, Searched}
 use Rattle.search.specs.declared.Ending.{Ending}
-use Rattle.span.specs.Ordered.{OrderOf, order-gives, order-terms}
+use Rattle.span.specs.Ordered.{OrderOf, order-gives, order-terms, order-rises}
 
 module _ (p : Plan) (core requests n : ℕ) (place : List ℕ) where
   -- a placement question is refused with the number that it is judged with, and the place is kept
@@ -35,11 +37,11 @@ module _ (p : Plan) (core requests n : ℕ) (place : List ℕ) where
   pub placement-answered : (picks : List ℕ) (count stall : ℕ) (after : List ℕ)
       → placementRefusal p core requests n (length place) ≡ 0
       → OrderOf p core picks count
-      → Gives (sharesAt p n) (intervals p) (between 0 count picks) requests place stall after
+      → Gives (sharesGiven (p .lengths) n) (intervals p) (between 0 count picks) requests place stall after
       → PlacementPromise p core requests n place (record { refused = 0; stall = stall }) after
   placement-answered picks count stall after e o gives =
       let sound = sound-placement p core requests n (length place) e in
-      let (answered, out) = order-gives p (sound .plan) picks count core (sound .budgets) o requests n place stall after gives in
+      let (answered, out) = order-gives p (sound .plan) picks count core (sound .budgets) o requests n place stall after (sound .inLimit) gives in
       rw e (placedWith (sharesAt p n) (intervals p) (between 0 count picks) requests, stall, answered, refl, out)
 
 module _ (p : Plan) (w : Workload) (place : List ℕ) where
@@ -55,25 +57,29 @@ module _ (p : Plan) (w : Workload) (place : List ℕ) where
     sound = sound-span p w (length place) e
 
     next : ℕ → ℕ
-    next = termAfter (p .perPeriod) (sharesAt p) (between 0 count picks) w
+    next = termAfter (p .perPeriod) (sharesGiven (p .lengths)) (between 0 count picks) w
 
-    terms : (t : ℕ) → NextTerm p w t (next t)
+    terms : (t : ℕ) → t ≤ w .horizon → NextTerm p w t (next t)
     unfolding next
-    terms = order-terms p (sound .plan) picks count w (sound .budgets) o
+    terms t inside = order-terms p (sound .plan) picks count w (sound .budgets) o t (le-trans inside (sound .inLimit))
+
+    rising : RisingTerms next (firstTerm p w)
+    unfolding next
+    rising = order-rises p w picks count (sound .plan) (sound .budgets) o
 
     -- the terms rise
-    pub span-terms : TermsClimb (p .perPeriod) (sharesAt p) (between 0 count picks) w
+    pub span-terms : TermsClimb (p .perPeriod) (sharesGiven (p .lengths)) (between 0 count picks) w
     unfolding next
-    span-terms = subst (RisingTerms next) (first-holding p w) (terms-rise p w (sound .plan) next terms)
+    span-terms = subst (RisingTerms next) (first-holding p w) rising
 
     from-first : (r : Ending)
-        → Searched (p .perPeriod) (sharesAt p) (between 0 count picks) w r
+        → Searched (p .perPeriod) (sharesGiven (p .lengths)) (between 0 count picks) w r
         → EndsWith next (firstTerm p w) (w .horizon) r
     unfolding next
     from-first r = subst (λ (first : ℕ). EndsWith next first (w .horizon) r) (sym (first-holding p w))
 
     -- 12: the terms pass the horizon
-    pub span-none : Searched (p .perPeriod) (sharesAt p) (between 0 count picks) w Ending.NoSpan
+    pub span-none : Searched (p .perPeriod) (sharesGiven (p .lengths)) (between 0 count picks) w Ending.NoSpan
         → SpanPromise p w place (noSpanFigures 12) place
     span-none ended =
         let (k, t, reached, past) = from-first Ending.NoSpan ended in
@@ -81,14 +87,16 @@ module _ (p : Plan) (w : Workload) (place : List ℕ) where
 
     -- the span is found: the answered placement there is written
     pub span-found : (span : Periods) (rounds stall : ℕ) (after : List ℕ)
-        → Searched (p .perPeriod) (sharesAt p) (between 0 count picks) w (Ending.Span span rounds)
-        → Gives (sharesAt p (span .0)) (intervals p) (between 0 count picks) (w .requests) place stall after
+        → Searched (p .perPeriod) (sharesGiven (p .lengths)) (between 0 count picks) w (Ending.Span span rounds)
+        → Gives (sharesGiven (p .lengths) (span .0)) (intervals p) (between 0 count picks) (w .requests) place stall after
         → SpanPromise p w place (record { refused = 0; span = span .0; stall = stall; rounds = rounds }) after
     span-found span rounds stall after ended gives =
         let (k, reached, inside, same, counted) = from-first (Ending.Span span rounds) ended in
-        let found = reached-span p w (sound .plan) next terms k (span .0) (sound .someComputing) reached inside same in
+        let found = reached-span p w (sound .plan) next terms k (span .0) rising (sound .someComputing) reached inside same in
         let (answered, out) =
-        order-gives p (sound .plan) picks count (w .core) (sound .budgets) o (w .requests) (span .0) place stall after gives in
+        order-gives p (sound .plan) picks count (w .core) (sound .budgets) o (w .requests) (span .0) place stall after
+        (le-trans inside (sound .inLimit))
+        gives in
         let xs = placedWith (sharesAt p (span .0)) (intervals p) (between 0 count picks) (w .requests) in
         let here : SpanGiven p w (record { refused = 0; span = span .0; stall = stall; rounds = rounds }) xs =
         record {

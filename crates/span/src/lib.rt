@@ -6,7 +6,7 @@ ghost use Rattle.meaning.specs.Promises.{PlacementPromise, SpanPromise};
 ghost use Rattle.plan_laws.specs.SoundPlan.{SoundPlan, SoundCore};
 ghost use Rattle.units.specs.Given.{planOf, workloadOf};
 ghost use Rattle.segments.specs.Packed.{between};
-ghost use Rattle.shares.specs.Shares.{sharesGiven};
+ghost use Rattle.shares.specs.Shares.{CycleOf, sharesGiven};
 ghost use Rattle.search.specs.Walked.{stallWith, Gives, Walkable};
 ghost use Rattle.span.specs.Figures.{placementFigures, spanFigures};
 ghost use Rattle.span.specs.Ordered.{OrderOf};
@@ -61,15 +61,16 @@ fn order_of(head: Head, lengths: &[u16], budgets: &[u16], core: u8) -> Ordered
 fn answer_at(
     picks: &[u64; 512],
     count: usize,
+    cycle: Periods,
     lengths: &[u16],
     requests: Requests,
     periods: Periods,
     place: &mut [u32],
 ) -> Slots
-    requires { ⌜ Walkable (length (now lengths)) (now picks) count × (length (now lengths) ≤ length (now place)) × (stallWith (sharesGiven (now lengths) (periods .0)) (between 0 count (now picks)) (requests .0) ≤ mostWork) ⌝ }
+    requires { ⌜ CycleOf (cycle .0) (now lengths) × Walkable (length (now lengths)) (now picks) count × (length (now lengths) ≤ length (now place)) × (stallWith (sharesGiven (now lengths) (periods .0)) (between 0 count (now picks)) (requests .0) ≤ mostWork) ⌝ }
     ensures { λ r. ⌜ Gives (sharesGiven (now (lengths .entry)) (periods .0)) (length (now (lengths .entry))) (between 0 count (now (picks .entry))) (requests .0) (now (place .entry)) (r .0) (now (place .exit)) ⌝ }
 {
-    let shares = shares::shares_of(lengths, periods);
+    let shares = shares::shares_of(cycle, lengths, periods);
     stall::place(picks, count, &shares, requests, lengths.len(), place);
     match stall::greatest(picks, count, &shares, requests) {
         MadeSlots::Within(stall) => stall,
@@ -78,8 +79,9 @@ fn answer_at(
 }
 
 // Placement and stall at a given W. A plan's head, the periods of each of its intervals, and its budgets, interval by interval with core 1
-// first; the core under analysis, counted from 1; its requests; W. The place is lent for the call: the answered placement, a number for
-// each interval, is written from its front and the rest is kept; on a refusal nothing is written.
+// first; the core under analysis, counted from 1; its requests; W, which may pass the plan's periods where the head is marked as repeating.
+// The place is lent for the call: the answered placement, a number for each interval over all cycles, is written from its front and the
+// rest is kept; on a refusal nothing is written.
 pub fn placement(
     head: Head,
     lengths: &[u16],
@@ -91,26 +93,30 @@ pub fn placement(
 ) -> PlacementAnswer
     ensures { λ r. ⌜ PlacementPromise (planOf head (now (lengths .entry)) (now (budgets .entry))) core (requests .0) (periods .0) (now (place .entry)) (placementFigures r) (now (place .exit)) ⌝ }
 {
-    let found = workload::judged_placement(
-        head,
-        lengths,
-        budgets,
-        core,
-        requests,
-        periods,
-        place.len(),
-    );
-    if let Judgement::Refused(why) = found {
-        return PlacementAnswer::Refused(why);
+    let room = place.len();
+    match workload::judged_placement(head, lengths, budgets, core, requests, periods, room) {
+        Judgement::Refused(why) => PlacementAnswer::Refused(why),
+        Judgement::Sound(cycle) => {
+            let ordered = order_of(head, lengths, budgets, core);
+            let count = ordered.count;
+            let stall = answer_at(
+                &ordered.picks,
+                count,
+                cycle,
+                lengths,
+                requests,
+                periods,
+                place,
+            );
+            PlacementAnswer::Stall(stall)
+        }
     }
-    let ordered = order_of(head, lengths, budgets, core);
-    let count = ordered.count;
-    PlacementAnswer::Stall(answer_at(&ordered.picks, count, lengths, requests, periods, place))
 }
 
 // Span. A plan's head, the periods of each of its intervals, and its budgets, interval by interval with core 1 first; the workload, its
-// core counted from 1. The place is lent for the call: the answered placement at the span, a number for each interval, is written from
-// its front and the rest is kept; on a refusal nothing is written.
+// core counted from 1, its horizon past the plan's periods only where the head is marked as repeating. The place is lent for the call: the
+// answered placement at the span, a number for each interval over all cycles, is written from its front and the rest is kept; on a refusal
+// nothing is written.
 pub fn span(
     head: Head,
     lengths: &[u16],
@@ -120,27 +126,23 @@ pub fn span(
 ) -> SpanAnswer
     ensures { λ r. ⌜ SpanPromise (planOf head (now (lengths .entry)) (now (budgets .entry))) (workloadOf workload) (now (place .entry)) (spanFigures r) (now (place .exit)) ⌝ }
 {
-    let found = workload::judged_span(head, lengths, budgets, workload, place.len());
-    if let Judgement::Refused(why) = found {
-        return SpanAnswer::Refused(why);
-    }
-    let ordered = order_of(head, lengths, budgets, workload.core);
-    let count = ordered.count;
-    match search::search(&ordered.picks, count, head, lengths, workload) {
-        Ending::NoSpan => SpanAnswer::Refused(Refusal::NoSpan),
-        Ending::Span { span, rounds } => {
-            let stall = answer_at(
-                &ordered.picks,
-                count,
-                lengths,
-                workload.requests,
-                span,
-                place,
-            );
-            SpanAnswer::Found {
-                span,
-                stall,
-                rounds,
+    match workload::judged_span(head, lengths, budgets, workload, place.len()) {
+        Judgement::Refused(why) => SpanAnswer::Refused(why),
+        Judgement::Sound(cycle) => {
+            let ordered = order_of(head, lengths, budgets, workload.core);
+            let count = ordered.count;
+            let picks = &ordered.picks;
+            match search::search(picks, count, head, cycle, lengths, workload) {
+                Ending::NoSpan => SpanAnswer::Refused(Refusal::NoSpan),
+                Ending::Span { span, rounds } => {
+                    let requests = workload.requests;
+                    let stall = answer_at(picks, count, cycle, lengths, requests, span, place);
+                    SpanAnswer::Found {
+                        span,
+                        stall,
+                        rounds,
+                    }
+                }
             }
         }
     }

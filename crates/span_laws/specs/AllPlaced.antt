@@ -202,7 +202,7 @@ holds-places-all p w n xs s sound some inside holds a =
     (stall-at-proper p w sound n (holds .stall) (holds .greatest))
     same
     uses
-    (shared-out p n inside)
+    (shared-out p n sound inside)
     (holds .enough)
     (omega (arith, some, less))))
     (eq-or-lt-of-le (a .answered .greatest .placed .within))

@@ -155,12 +155,12 @@ answer-room p w room room' a xs answer none lent =
       fewComputing = s .fewComputing;
       fewRequests = s .fewRequests;
       positive = s .positive;
-      inPlan = s .inPlan;
+      inLimit = s .inLimit;
       enoughRoom = lent;
     })
     (asked .1)
 
--- with no more work, some computing, and a horizon within the plan, the question is as sound
+-- with no more work, some computing, and a horizon within the plan's limit, the question is as sound
 sound-less : (p : Plan) (w v : Workload) (room : ℕ)
     → SoundSpan p w room
     → NoMoreWork v w
@@ -168,7 +168,7 @@ sound-less : (p : Plan) (w v : Workload) (room : ℕ)
     → 1 ≤ v .horizon
     → v .horizon ≤ mostSpan p
     → SoundSpan p v room
-sound-less p w v room s less some positive inPlan =
+sound-less p w v room s less some positive inLimit =
     record {
       plan = s .plan;
       budgets = subst (SoundCore p) (sym (less .core)) (s .budgets);
@@ -176,7 +176,7 @@ sound-less p w v room s less some positive inPlan =
       fewComputing = le-trans (less .computing) (s .fewComputing);
       fewRequests = le-trans (less .requests) (s .fewRequests);
       positive = positive;
-      inPlan = inPlan;
+      inLimit = inLimit;
       enoughRoom = s .enoughRoom;
     }
 
@@ -190,7 +190,7 @@ pub asked-less : (p : Plan) (w v : Workload) (room : ℕ) (a b : SpanFigures) (x
     → v .horizon ≤ mostSpan p
     → SpanAnswered p v room b ys
     → (b .refused ≡ 0) × (b .span ≤ a .span)
-asked-less p w v room a b xs ys first none less some inside inPlan again =
+asked-less p w v room a b xs ys first none less some inside inLimit again =
     let asked = answer-given p w room a xs first none in
     let plan = asked .0 .plan in
     let found = less-work p w v plan (asked .0 .budgets) less (a .span) some inside (asked .1 .isSpan) in
@@ -200,7 +200,7 @@ asked-less p w v room a b xs ys first none less some inside inPlan again =
       subst (λ (n : ℕ). n ≤ a .span) (span-unique p v plan (found .0) (b .span) (found .1) (given .isSpan)) (found .2),
     ))
     (λ nothing. absurd (span-not-none p v plan (found .0) (found .1) (nothing .0)))
-    (sound-answer p v room b ys (sound-less p w v room (asked .0) less some (le-trans (asked .1 .isSpan .positive) inside) inPlan) again)
+    (sound-answer p v room b ys (sound-less p w v room (asked .0) less some (le-trans (asked .1 .isSpan .positive) inside) inLimit) again)
 
 -- asked again up to a later horizon, the answer is the same
 pub asked-later : (p : Plan) (w : Workload) (h room : ℕ) (a b : SpanFigures) (xs ys : List ℕ)
@@ -210,10 +210,10 @@ pub asked-later : (p : Plan) (w : Workload) (h room : ℕ) (a b : SpanFigures) (
     → h ≤ mostSpan p
     → SpanAnswered p (until w h) room b ys
     → (b ≡ a) × (ys ≡ xs)
-asked-later p w h room a b xs ys first none later inPlan again =
+asked-later p w h room a b xs ys first none later inLimit again =
     let asked = answer-given p w room a xs first none in
     let less : NoMoreWork (until w h) w =
     record { core = refl; computing = le-refl (w .computing); requests = le-refl (w .requests) } in
-    let sound = sound-less p w (until w h) room (asked .0) less (asked .0 .someComputing) (le-trans (asked .0 .positive) later) inPlan in
+    let sound = sound-less p w (until w h) room (asked .0) less (asked .0 .someComputing) (le-trans (asked .0 .positive) later) inLimit in
     span-answer-unique p (until w h) room b a ys xs again
     (given-answer p (until w h) room a xs sound (later-horizon p w h a xs later (asked .1)))

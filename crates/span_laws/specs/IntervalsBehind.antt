@@ -1,5 +1,6 @@
--- A plan with intervals added behind: a span once given stays the same, and the placement goes on with zeros.
+-- A plain plan with intervals added behind: a span once given stays the same, and the placement goes on with zeros.
 use mathlib.Core.Path.{_≡_, refl, sym, ap, ap₂, _∙_, subst, subst₂}
+use mathlib.Core.Bool.{false}
 use mathlib.Core.List.{List, [], _∷_, _++_}
 use Prim.Native.Nat.{ℕ, _*_, _≤_}
 use native.Mathlib.Nat.{le-refl, le-trans, le-of-eq, suc-mul}
@@ -42,7 +43,7 @@ rows-behind m (l ∷ ls) bs ls' bs' count =
 rows-longer : (p : Plan) (ls bs : List ℕ) → SoundPlan p → rows (longer p ls bs) ≡ rows p ++ rowsOf (p .cores) ls bs
 rows-longer p ls bs sound = rows-behind (p .cores) (p .lengths) (p .budgets) ls bs (sound .count)
 
-module _ (p : Plan) (ls bs : List ℕ) (core : ℕ) (sound : SoundPlan p) (more : SoundPlan (longer p ls bs)) where
+module _ (p : Plan) (ls bs : List ℕ) (core : ℕ) (plain : p .repeating ≡ false) (sound : SoundPlan p) (more : SoundPlan (longer p ls bs)) where
   -- those of this plan
   addedParts : Added (p .perPeriod) core (p .cores) ls bs
   addedParts =
@@ -56,7 +57,7 @@ module _ (p : Plan) (ls bs : List ℕ) (core : ℕ) (sound : SoundPlan p) (more 
     parts-longer =
         subst₂
         (λ (ws : List ℕ) (rs : List (List ℕ)). PartsOf (p .perPeriod) core ws rs (ps ++ addedParts .parts))
-        (sym (plan-shares-behind p ls bs n inside))
+        (sym (plan-shares-behind p ls bs n plain inside))
         (sym (rows-longer p ls bs sound))
         (parts-behind
         (p .perPeriod)
@@ -142,7 +143,7 @@ module _ (p : Plan) (ls bs : List ℕ) (core : ℕ) (sound : SoundPlan p) (more 
       → GreatestStall (longer p ls bs) core requests (sharesAt (longer p ls bs) n) g
       → (f : Fraction) × GreatestStall p core requests (sharesAt p n) f × (f =ᶠ g)
   shorter-stall requests n g budgets inside h =
-      let own = greatest-exists p core sound budgets requests (sharesAt p n) (plan-sharing p .many n) in
+      let own = greatest-exists p core sound budgets requests (sharesAt p n) (plan-sharing p sound .many n) in
       let there = longer-stall requests n (own .0) inside (own .1) in (
         own .0,
         own .1,
@@ -155,12 +156,12 @@ module _ (p : Plan) (ls bs : List ℕ) (core : ℕ) (sound : SoundPlan p) (more 
             (stall-value-same (longer p ls bs) core more requests (sharesAt (longer p ls bs) n) (there .0) g (there .1) h),
       )
 
-module _ (p : Plan) (ls bs : List ℕ) (w : Workload) (sound : SoundPlan p) (more : SoundPlan (longer p ls bs))
+module _ (p : Plan) (ls bs : List ℕ) (w : Workload) (plain : p .repeating ≡ false) (sound : SoundPlan p) (more : SoundPlan (longer p ls bs))
     (budgets : SoundCore p (w .core)) (within : w .horizon ≤ mostSpan p) where
   -- the terms are the same
   term-longer : (t next : ℕ) → t ≤ w .horizon → NextTerm p w t next → NextTerm (longer p ls bs) w t next
   term-longer t next inside h =
-      let there = longer-stall p ls bs (w .core) sound more (w .requests) t (h .stall) (le-trans inside within) (h .greatest) in
+      let there = longer-stall p ls bs (w .core) plain sound more (w .requests) t (h .stall) (le-trans inside within) (h .greatest) in
       let own = needed (work w) (p .perPeriod) (h .stall) in
       let other = needed (work w) (p .perPeriod) (there .0) in
       record {
@@ -184,13 +185,13 @@ module _ (p : Plan) (ls bs : List ℕ) (w : Workload) (sound : SoundPlan p) (mor
   -- what holds the work holds it in the longer plan
   holds-longer : (n : ℕ) → n ≤ w .horizon → Holds p w n → Holds (longer p ls bs) w n
   holds-longer n inside h =
-      let there = longer-stall p ls bs (w .core) sound more (w .requests) n (h .stall) (le-trans inside within) (h .greatest) in
+      let there = longer-stall p ls bs (w .core) plain sound more (w .requests) n (h .stall) (le-trans inside within) (h .greatest) in
       holds-under p (longer p ls bs) w w n (there .0) sound refl (le-refl (work w)) (there .1) h (le-of-eq (there .2))
 
   -- and the other way round
   holds-shorter : (n : ℕ) → n ≤ w .horizon → Holds (longer p ls bs) w n → Holds p w n
   holds-shorter n inside h =
-      let own = shorter-stall p ls bs (w .core) sound more (w .requests) n (h .stall) budgets (le-trans inside within) (h .greatest) in
+      let own = shorter-stall p ls bs (w .core) plain sound more (w .requests) n (h .stall) budgets (le-trans inside within) (h .greatest) in
       holds-under (longer p ls bs) p w w n (own .0) more refl (le-refl (work w)) (own .1) h (le-of-eq (own .2))
 
   -- intervals added behind leave the span the same, and its stall and rounds; the placement goes on with zeros
@@ -213,13 +214,14 @@ module _ (p : Plan) (ls bs : List ℕ) (w : Workload) (sound : SoundPlan p) (mor
       a
       xs
       (xs ++ zerosFor ls)
-      (longer-answered p ls bs (w .core) sound more (w .requests) (a .span) xs (a .stall)
+      (longer-answered p ls bs (w .core) plain sound more (w .requests) (a .span) xs (a .stall)
       (le-trans (given .isSpan .inHorizon) within)
       (given .placement))
       given
 
--- asked of a plan with intervals added behind, the answer is the same, and the placement goes on with zeros
+-- asked of a plain plan with intervals added behind, the answer is the same, and the placement goes on with zeros
 pub asked-longer : (p : Plan) (ls bs : List ℕ) (w : Workload) (room room' : ℕ) (a b : SpanFigures) (xs ys : List ℕ)
+    → p .repeating ≡ false
     → SpanAnswered p w room a xs
     → a .refused ≡ 0
     → planRefusal (longer p ls bs) ≡ 0
@@ -227,7 +229,7 @@ pub asked-longer : (p : Plan) (ls bs : List ℕ) (w : Workload) (room room' : �
     → intervals (longer p ls bs) ≤ room'
     → SpanAnswered (longer p ls bs) w room' b ys
     → (b ≡ a) × (ys ≡ xs ++ zerosFor ls)
-asked-longer p ls bs w room room' a b xs ys first none plan core lent again =
+asked-longer p ls bs w room room' a b xs ys plain first none plan core lent again =
     let asked = answer-given p w room a xs first none in
     let s = asked .0 in
     let sound : SoundSpan (longer p ls bs) w room' =
@@ -238,9 +240,9 @@ asked-longer p ls bs w room room' a b xs ys first none plan core lent again =
       fewComputing = s .fewComputing;
       fewRequests = s .fewRequests;
       positive = s .positive;
-      inPlan = omega (arith, s .inPlan, sum-append (p .lengths) ls);
+      inLimit = rw plain (omega (arith, rw plain at (s .inLimit), sum-append (p .lengths) ls));
       enoughRoom = lent;
     } in
     span-answer-unique (longer p ls bs) w room' b a ys (xs ++ zerosFor ls) again
     (given-answer (longer p ls bs) w room' a (xs ++ zerosFor ls) sound
-    (longer-span p ls bs w (s .plan) (sound .plan) (s .budgets) (s .inPlan) a xs (asked .1)))
+    (longer-span p ls bs w plain (s .plan) (sound .plan) (s .budgets) (s .inLimit) a xs (asked .1)))

@@ -29,7 +29,7 @@ pub record SoundSpan (p : Plan) (w : Workload) (room : ℕ) : Type 0 where
   pub fewComputing : w .computing ≤ mostWork
   pub fewRequests : w .requests ≤ mostWork
   pub positive : 1 ≤ w .horizon
-  pub inPlan : w .horizon ≤ mostSpan p
+  pub inLimit : w .horizon ≤ mostSpan p
   pub enoughRoom : intervals p ≤ room
 
 -- a span question without a refusal before the search is sound
@@ -54,7 +54,7 @@ sound-span p w room e =
       fewComputing = some .1;
       fewRequests = inside 0 mostWork (w .requests) (not-broken (outside 0 mostWork (w .requests)) 8 (first-zero (requestsRefusal (w .requests)) fourth asked)) .1;
       positive = within .0;
-      inPlan = within .1;
+      inLimit = within .1;
       enoughRoom = ltb-false room (intervals p) (not-broken (ltb room (intervals p)) 10 (second-zero (horizonRefusal p (w .horizon)) fifth later));
     }
 
@@ -187,7 +187,7 @@ span-sound p w room s =
     (both-zero (core-sound p (w .core) (s .budgets))
     (both-zero (not-refused 8 (not-outside (s .someComputing) (s .fewComputing)))
     (both-zero (not-refused 9 (not-outside zero-le (s .fewRequests)))
-    (both-zero (not-refused 10 (not-outside (s .positive) (s .inPlan)))
+    (both-zero (not-refused 10 (not-outside (s .positive) (s .inLimit)))
     (not-refused 11 (le-ltb room (intervals p) (s .enoughRoom)))))))
 
 -- what "span" answers, by the number that it is judged with
@@ -268,7 +268,7 @@ module _ (p : Plan) (w : Workload) (room : ℕ) (a : SpanFigures) (xs : List ℕ
       (a .stall)
       (sound .plan)
       (sound .someComputing)
-      (le-trans (given .isSpan .inHorizon) (sound .inPlan))
+      (le-trans (given .isSpan .inHorizon) (sound .inLimit))
       (given .isSpan .holds)
       (given .placement)
 
@@ -318,7 +318,7 @@ pub seen-span : (p : Plan) (w : Workload) (place : List ℕ) (a : SpanFigures) (
     → SeenSpan p w place a after
 seen-span p w place a after (xs, answer, wrote) none =
     let both = answer-given p w (length place) a xs answer none in
-    let count : length xs ≡ intervals p = placed-count p w (a .span) xs (a .stall) (both .1 .placement) in
+    let count : length xs ≡ intervals p = placed-count p w (a .span) xs (a .stall) (both .0 .plan) (both .1 .placement) in
     let front : take (intervals p) after ≡ xs =
     ap (take (intervals p)) wrote ∙ ap (λ (n : ℕ). take n (written xs place)) (sym count) ∙ take-append-seam xs (drop (length xs) place) in
     let rest : drop (intervals p) after ≡ drop (intervals p) place =

@@ -8,7 +8,7 @@ use Rattle.meaning.specs.Fraction.{Fraction, Proper, _≤ᶠ_, _=ᶠ_}
 use Rattle.meaning.specs.Plan.{Plan, Workload, sumOf, intervals, mostSpan, mostPeriods, rows, intervalAt}
 use Rattle.meaning.specs.Placement.{Part, sharesAt, PartsOf, Fitting, total}
 use Rattle.meaning.specs.Span.{StallAt, PlacedAt}
-use Rattle.plan_laws.specs.SoundPlan.{SoundPlan, SoundCore}
+use Rattle.plan_laws.specs.SoundPlan.{SoundPlan, SoundCore, most-span-few}
 use Rattle.placement_laws.specs.Shares.{plan-sharing, shares-sum, shares-grow}
 use Rattle.placement_laws.specs.StallUnique.{stall-value-proper, stall-value-same, answered-with-unique}
 use Rattle.placement_laws.specs.PlacementExists.{answered-greatest, answered-exists}
@@ -24,18 +24,21 @@ parts-count perPeriod core (w ∷ ws) (r ∷ rs) (p ∷ ps) (x ∷ xs) h fitting
     ap suc (parts-count perPeriod core ws rs ps xs (h .2) (fitting .1))
 
 -- an answered placement has a number for each interval
-pub placed-count : (p : Plan) (w : Workload) (n : ℕ) (xs : List ℕ) (s : ℕ) → PlacedAt p w n xs s → length xs ≡ intervals p
-placed-count p w n xs s h =
+pub placed-count : (p : Plan) (w : Workload) (n : ℕ) (xs : List ℕ) (s : ℕ)
+    → SoundPlan p
+    → PlacedAt p w n xs s
+    → length xs ≡ intervals p
+placed-count p w n xs s sound h =
     parts-count (p .perPeriod) (w .core) (sharesAt p n) (rows p) (h .parts) xs (h .ofPlan) (h .answered .greatest .placed .fitting)
-    ∙ plan-sharing p .many n
+    ∙ plan-sharing p sound .many n
 
 -- up to the plan's limit the shares of n periods sum to n
-pub shared-out : (p : Plan) (n : ℕ) → n ≤ mostSpan p → sumOf (sharesAt p n) ≡ n
-shared-out p = shares-sum (intervals p) (mostSpan p) (sharesAt p) (intervalAt p) (plan-sharing p)
+pub shared-out : (p : Plan) (n : ℕ) → SoundPlan p → n ≤ mostSpan p → sumOf (sharesAt p n) ≡ n
+shared-out p n sound = shares-sum (intervals p) (mostSpan p) (sharesAt p) (intervalAt p) (plan-sharing p sound) n
 
 -- which is no more than any plan has
 pub shared-few : (p : Plan) (n : ℕ) → SoundPlan p → n ≤ mostSpan p → sumOf (sharesAt p n) ≤ mostPeriods
-shared-few p n sound inside = rw (shared-out p n inside) (le-trans inside (sound .total))
+shared-few p n sound inside = rw (shared-out p n sound inside) (le-trans inside (most-span-few p sound))
 
 module _ (p : Plan) (w : Workload) (sound : SoundPlan p) where
   -- S(W) has a divisor of at least 1
@@ -56,7 +59,7 @@ module _ (p : Plan) (w : Workload) (sound : SoundPlan p) where
 
   -- there always is one
   pub placed-at-exists : SoundCore p (w .core) → (n : ℕ) → (xs : List ℕ) × (s : ℕ) × PlacedAt p w n xs s
-  placed-at-exists budgets n = answered-exists p (w .core) sound budgets (w .requests) (sharesAt p n) (plan-sharing p .many n)
+  placed-at-exists budgets n = answered-exists p (w .core) sound budgets (w .requests) (sharesAt p n) (plan-sharing p sound .many n)
 
   -- S(W) of a workload with no more requests on the same core, for no more periods, is no larger
   pub stall-at-grows : (v : Workload) (t n : ℕ) (f g : Fraction)
@@ -68,7 +71,7 @@ module _ (p : Plan) (w : Workload) (sound : SoundPlan p) where
       → f ≤ᶠ g
   stall-at-grows v t n f g core requests periods hf hg =
       stall-grows p (w .core) sound (v .requests) (w .requests) (sharesAt p t) (sharesAt p n) f g requests
-      (shares-grow (intervals p) (mostSpan p) (sharesAt p) (intervalAt p) (plan-sharing p) t n periods)
+      (shares-grow (intervals p) (mostSpan p) (sharesAt p) (intervalAt p) (plan-sharing p sound) t n periods)
       (rw core at hf)
       hg
 

@@ -123,19 +123,23 @@ module _ (next : ℕ → ℕ) (first horizon : ℕ) where
         let up = lt-of-le-ne (reached-climbs k u reached) (λ same. other (sym same)) in
         omega (arith, e, up, reached-rounds k u reached)
 
-module _ (p : Plan) (w : Workload) (sound : SoundPlan p) (next : ℕ → ℕ) (terms : (t : ℕ) → NextTerm p w t (next t)) where
-  -- 004's terms rise
-  pub terms-rise : RisingTerms next (firstTerm p w)
-  terms-rise =
-      record {
-        rises = λ t v le. next-rises p w sound t v (next t) (next v) le (terms t) (terms v);
-        least = λ t. first-least p w sound t (next t) (terms t);
-      }
+-- 004's terms rise
+pub terms-rise : (p : Plan) (w : Workload) (next : ℕ → ℕ)
+    → SoundPlan p
+    → ((t : ℕ) → NextTerm p w t (next t))
+    → RisingTerms next (firstTerm p w)
+terms-rise p w next sound terms =
+    record {
+      rises = λ t v le. next-rises p w sound t v (next t) (next v) le (terms t) (terms v);
+      least = λ t. first-least p w sound t (next t) (terms t);
+    }
 
+-- where the terms up to the horizon are these
+module _ (p : Plan) (w : Workload) (sound : SoundPlan p) (next : ℕ → ℕ) (terms : (t : ℕ) → t ≤ w .horizon → NextTerm p w t (next t)) where
   reached-under : (k t : ℕ) → TermReached next (firstTerm p w) (w .horizon) k t → AtMostSpan p w sound t
   reached-under zero t e n holds = subst (λ (m : ℕ). m ≤ n) (sym e) (holds-first p w sound n holds)
   reached-under (suc k) t (u, reached, inside, other, e) n holds =
-      subst (λ (m : ℕ). m ≤ n) (sym e) (holds-next p w sound n u (next u) holds (reached-under k u reached n holds) (terms u))
+      subst (λ (m : ℕ). m ≤ n) (sym e) (holds-next p w sound n u (next u) holds (reached-under k u reached n holds) (terms u inside))
 
   reached-settles : (k j t n : ℕ)
       → TermReached next (firstTerm p w) (w .horizon) k t
@@ -147,18 +151,19 @@ module _ (p : Plan) (w : Workload) (sound : SoundPlan p) (next : ℕ → ℕ) (t
       let order : k + suc j ≡ suc k + j = omega arith in
       subst (λ (m : ℕ). SettlesFrom p w m (firstTerm p w) n) order
       (reached-settles k (suc j) u n reached
-      (inside, next u, terms u, inr (other, subst (λ (m : ℕ). SettlesFrom p w j m n) e h)))
+      (inside, next u, terms u inside, inr (other, subst (λ (m : ℕ). SettlesFrom p w j m n) e h)))
 
   -- a term that was reached, within the horizon, and is equal to the next is the span, and the rounds are one more
   pub reached-span : (k t : ℕ)
+      → RisingTerms next (firstTerm p w)
       → 1 ≤ w .computing
       → TermReached next (firstTerm p w) (w .horizon) k t
       → t ≤ w .horizon
       → next t ≡ t
       → IsSpan p w t × Rounds p w t (k + 1)
-  reached-span k t some reached inside same =
-      let settled : NextTerm p w t t = subst (λ (n : ℕ). NextTerm p w t n) same (terms t) in
-      let rounds = reached-rounds next (firstTerm p w) (w .horizon) terms-rise k t reached in (
+  reached-span k t rising some reached inside same =
+      let settled : NextTerm p w t t = subst (λ (n : ℕ). NextTerm p w t n) same (terms t inside) in
+      let rounds = reached-rounds next (firstTerm p w) (w .horizon) rising k t reached in (
         settled-span p w sound t (omega (arith, rounds, first-positive p w sound some)) inside (reached-under k t reached) settled,
         reached-settles k 1 t t reached (inside, t, settled, inl (refl, refl, refl)),
       )

@@ -215,7 +215,7 @@ claim-answer p w room cs e right =
     answered-in-order p (w .core) (sound .plan) (sound .budgets) (λ i. getD cs i none)
     (claimed-curves p (w .core) (sound .plan) cs right)
     (sharesAt p t)
-    (plan-sharing p .many t)
+    (plan-sharing p (sound .plan) .many t)
     (w .requests))
 
 -- the same for a given number of periods
@@ -234,7 +234,7 @@ claim-placement p core requests n room cs e right =
     answered-in-order p core (sound .plan) (sound .budgets) (λ i. getD cs i none)
     (claimed-curves p core (sound .plan) cs right)
     (sharesAt p n)
-    (plan-sharing p .many n)
+    (plan-sharing p (sound .plan) .many n)
     requests
 
 -- with checked curves for all intervals, the term after t is that of the stall by them

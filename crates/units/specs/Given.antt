@@ -11,7 +11,13 @@ use Rattle.units.specs.declared.Workload.{Workload}
 -- the plan that a head, the lengths and the budgets give
 abbrev pub planOf : Head → List ℕ → List ℕ → Plan
 planOf h lengths budgets =
-    record { cores = h .cores; perPeriod = h .«per_period» .0; lengths = lengths; budgets = budgets }
+    record {
+      cores = h .cores;
+      perPeriod = h .«per_period» .0;
+      repeating = h .repeating;
+      lengths = lengths;
+      budgets = budgets;
+    }
 
 -- the workload that a workload's value gives
 abbrev pub workloadOf : Workload → meant.Workload

@@ -77,7 +77,7 @@ impl Slots {
 }
 
 impl Periods {
-    // The most periods that a plan has.
+    // The most periods that a plan has, and a span of a plan that repeats.
     pub const MAX: u16 = 65_535;
 
     // The periods, where a plan can have so many.
@@ -122,10 +122,11 @@ impl Requests {
     }
 }
 
-// The head of a plan: its cores, and Q, the slots of each of its periods.
+// The head of a plan: its cores, Q, the slots of each of its periods, and the mark of a plan that starts over each cycle.
 pub struct Head {
     pub cores: u8,
     pub per_period: Slots,
+    pub repeating: bool,
 }
 
 impl Head {

@@ -2,6 +2,7 @@
 ghost use Prim.Native.Nat.{_≤_};
 ghost use lib.ListN.{length};
 use reader::ReadAnswer;
+use units::Head;
 use vectors_text::body::byte_at;
 use vectors_text::body::bytes_from;
 use vectors_text::body::count_at;
@@ -33,6 +34,11 @@ fn rooms_within(body: &[u8]) -> bool {
     plan && work && is_within(body, 10)
 }
 
+// The mark of a head as a number.
+fn mark_of(head: Head) -> usize {
+    if head.repeating { 1 } else { 0 }
+}
+
 // The start of an answer on a file that is read.
 fn put_read(line: &mut [u8], answer: ReadAnswer) -> usize
     ensures { λ r. ⌜ r ≤ length (now (line .exit)) ⌝ }
@@ -44,13 +50,14 @@ fn put_read(line: &mut [u8], answer: ReadAnswer) -> usize
                 0,
                 head.cores as usize,
                 head.per_period.0 as usize,
+                mark_of(head),
                 found.intervals,
                 found.workloads,
             ];
             put_start(line, b"read", 0, &plan)
         }
         ReadAnswer::Refused(refusal, offset) => {
-            put_refused(line, b"read", refusal, &[offset, 0, 0, 0, 0])
+            put_refused(line, b"read", refusal, &[offset, 0, 0, 0, 0, 0])
         }
     }
 }
@@ -148,11 +155,11 @@ pub fn read_question(body: &[u8], line: &mut [u8]) -> usize
 
 // Whether the room and the counts are within the fixed places, and the lists of so many values end with the body.
 fn is_writing(body: &[u8]) -> bool {
-    let place = is_within(body, 5) && is_within(body, 8) && is_within(body, 10);
-    let lists = is_within(body, 12) && is_within(body, 14) && is_within(body, 16);
-    let twos = byte_at(body, 7) as usize + count_at(body, 8) + count_at(body, 16);
-    let fours = count_at(body, 12) + count_at(body, 14);
-    place && lists && body.len() == 18 + 2 * twos + count_at(body, 10) + 4 * fours
+    let place = is_within(body, 6) && is_within(body, 9) && is_within(body, 11);
+    let lists = is_within(body, 13) && is_within(body, 15) && is_within(body, 17);
+    let twos = byte_at(body, 8) as usize + count_at(body, 9) + count_at(body, 17);
+    let fours = count_at(body, 13) + count_at(body, 15);
+    place && lists && body.len() == 19 + 2 * twos + count_at(body, 11) + 4 * fours
 }
 
 // The start of an answer on a file that is written.
@@ -169,13 +176,13 @@ fn put_written(line: &mut [u8], answer: WriteAnswer) -> usize
 fn write_into(body: &[u8], place: &mut [u8], line: &mut [u8]) -> usize
     ensures { λ r. ⌜ r ≤ length (now (line .exit)) ⌝ }
 {
-    let intervals = byte_at(body, 7) as usize;
-    let budgets_start = 18 + 2 * intervals;
-    let analysed_start = budgets_start + 2 * count_at(body, 8);
-    let computing_start = analysed_start + count_at(body, 10);
-    let requests_start = computing_start + 4 * count_at(body, 12);
-    let horizons_start = requests_start + 4 * count_at(body, 14);
-    let lengths = twos_from(body, 18);
+    let intervals = byte_at(body, 8) as usize;
+    let budgets_start = 19 + 2 * intervals;
+    let analysed_start = budgets_start + 2 * count_at(body, 9);
+    let computing_start = analysed_start + count_at(body, 11);
+    let requests_start = computing_start + 4 * count_at(body, 13);
+    let horizons_start = requests_start + 4 * count_at(body, 15);
+    let lengths = twos_from(body, 19);
     let budgets = twos_from(body, budgets_start);
     let analysed = bytes_from(body, analysed_start);
     let computing = fours_from(body, computing_start);
@@ -184,25 +191,25 @@ fn write_into(body: &[u8], place: &mut [u8], line: &mut [u8]) -> usize
     let answer = writer::write(
         head_at(body, 1),
         front_twos(&lengths, intervals),
-        front_twos(&budgets, count_at(body, 8)),
-        front_bytes(&analysed, count_at(body, 10)),
-        front_fours(&computing, count_at(body, 12)),
-        front_fours(&requests, count_at(body, 14)),
-        front_twos(&horizons, count_at(body, 16)),
+        front_twos(&budgets, count_at(body, 9)),
+        front_bytes(&analysed, count_at(body, 11)),
+        front_fours(&computing, count_at(body, 13)),
+        front_fours(&requests, count_at(body, 15)),
+        front_twos(&horizons, count_at(body, 17)),
         place,
     );
     let at = put_written(line, answer);
     put_bytes(line, at, place)
 }
 
-// Cores, Q, the room of the place, the counts of the lengths and the budgets, of the four lists of workload values, and the lists.
+// Cores, Q, the mark, the room of the place, the counts of the lengths and the budgets, of the four lists of workload values, and the lists.
 pub fn write_question(body: &[u8], line: &mut [u8]) -> usize
     ensures { λ r. ⌜ r ≤ length (now (line .exit)) ⌝ }
 {
     if !is_writing(body) {
         return malformed(line);
     }
-    let room = count_at(body, 5);
+    let room = count_at(body, 6);
     let mut place = unwritten_bytes();
     write_into(body, lend_bytes(&mut place, room), line)
 }

@@ -18,16 +18,16 @@ use vectors_text::places::front_twos;
 use vectors_text::places::lend_twos;
 use vectors_text::places::unwritten_twos;
 
-// Cores, core, Q, r, and the budgets to the body's end.
+// Cores, core, Q, the mark, r, and the budgets to the body's end.
 pub fn raw_question(body: &[u8], line: &mut [u8]) -> usize
     ensures { λ r. ⌜ r ≤ length (now (line .exit)) ⌝ }
 {
-    if !ends_in_twos(body, 10) {
+    if !ends_in_twos(body, 11) {
         return malformed(line);
     }
-    let count = count_from(body, 10);
-    let budgets = twos_from(body, 10);
-    let rate = Requests(four_at(body, 6));
+    let count = count_from(body, 11);
+    let budgets = twos_from(body, 11);
+    let rate = Requests(four_at(body, 7));
     match interval::raw_stall(
         head_at(body, 2),
         front_twos(&budgets, count),
@@ -53,22 +53,22 @@ fn put_corners(line: &mut [u8], answer: CornersAnswer) -> usize
 fn corners_into(body: &[u8], place: &mut [u16], line: &mut [u8]) -> usize
     ensures { λ r. ⌜ r ≤ length (now (line .exit)) ⌝ }
 {
-    let count = count_from(body, 7);
-    let budgets = twos_from(body, 7);
+    let count = count_from(body, 8);
+    let budgets = twos_from(body, 8);
     let core = byte_at(body, 1);
     let answer = interval::corners(head_at(body, 2), front_twos(&budgets, count), core, place);
     let at = put_corners(line, answer);
     put_twos(line, at, place)
 }
 
-// Cores, core, Q, the room of the place, and the budgets to the body's end.
+// Cores, core, Q, the mark, the room of the place, and the budgets to the body's end.
 pub fn corners_question(body: &[u8], line: &mut [u8]) -> usize
     ensures { λ r. ⌜ r ≤ length (now (line .exit)) ⌝ }
 {
-    if !ends_in_twos(body, 7) {
+    if !ends_in_twos(body, 8) {
         return malformed(line);
     }
-    let room = byte_at(body, 6) as usize;
+    let room = byte_at(body, 7) as usize;
     let mut place = unwritten_twos();
     corners_into(body, lend_twos(&mut place, room), line)
 }

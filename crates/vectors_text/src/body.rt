@@ -39,11 +39,14 @@ pub fn four_at(body: &[u8], at: usize) -> u32 {
     }
 }
 
-// A plan's head: the cores first in the body, and Q at an index.
-pub fn head_at(body: &[u8], at: usize) -> Head {
+// A plan's head: the cores first in the body, Q at an index, and the mark behind it, which is 0 for a plain plan.
+pub fn head_at(body: &[u8], at: usize) -> Head
+    requires { ⌜ at ≤ 2 ⌝ }
+{
     Head {
         cores: byte_at(body, 0),
         per_period: Slots(four_at(body, at)),
+        repeating: byte_at(body, at + 4) != 0,
     }
 }
 

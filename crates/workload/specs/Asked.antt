@@ -5,7 +5,7 @@ use Prim.Native.Nat.{ℕ, _≤_, _<_, zero-le}
 use native.Mathlib.Omega.{arith}
 use borrow.Author.Tests.{le-leb, lt-leb, lt-ltb, le-ltb}
 use Rattle.plan_laws.specs.RefusalOrder.{not-outside}
-use Rattle.meaning.specs.Plan.{Plan, Workload, intervals, mostSpan, mostWork}
+use Rattle.meaning.specs.Plan.{Plan, Workload, intervals, periods, spanLimit, mostSpan, mostWork}
 use Rattle.meaning.specs.Refusals.{_before_, refusedIf, outside, planRefusal, coreRefusal, computingRefusal, requestsRefusal, roomRefusal, placementRefusal, spanRefusal}
 use Rattle.plan_laws.specs.RefusalOrder.{before-assoc}
 use Rattle.units.specs.Refusals.{numberOf}
@@ -13,49 +13,49 @@ use Rattle.units.specs.declared.Refusal.{Refusal}
 use Rattle.judge.specs.Judged.{Judged, refused-before}
 use Rattle.judge.specs.declared.Judgement.{Judgement}
 
--- 9, 10, 11 for a plan of so many periods: requests, W, and a place of this room for so many numbers
+-- 9, 10, 11 where W is at most so many periods: requests, W, and a place of this room for so many numbers
 abbrev pub askedRefusal : ℕ → ℕ → ℕ → ℕ → ℕ → ℕ
-askedRefusal total requests n wanted room =
-    requestsRefusal requests before refusedIf (outside 1 total n) 10 before roomRefusal wanted room
+askedRefusal most requests n wanted room =
+    requestsRefusal requests before refusedIf (outside 1 most n) 10 before roomRefusal wanted room
 
 -- a placement question judged: 1 to 7, 9, 10, 11
 abbrev pub PlacementJudged : Plan → ℕ → ℕ → ℕ → ℕ → Judgement → Type 0
-PlacementJudged p core requests n room r = Judged (placementRefusal p core requests n room) (mostSpan p) r
+PlacementJudged p core requests n room r = Judged (placementRefusal p core requests n room) (periods p) r
 
 -- a span question judged before its search: 1 to 11
 abbrev pub SpanJudged : Plan → Workload → ℕ → Judgement → Type 0
-SpanJudged p w room r = Judged (spanRefusal p w room) (mostSpan p) r
+SpanJudged p w room r = Judged (spanRefusal p w room) (periods p) r
 
 -- a number past the last is outside
 past-outside : (a b n : ℕ) → a ≤ n → b < n → outside a b n ≡ true
 past-outside a b n low past = rw (le-leb a n low, lt-leb n b past)
 
-module _ (total requests n wanted room : ℕ) where
+module _ (most requests n wanted room : ℕ) where
   -- 9: requests outside their bounds
-  pub asked-requests : mostWork < requests → askedRefusal total requests n wanted room ≡ 9
+  pub asked-requests : mostWork < requests → askedRefusal most requests n wanted room ≡ 9
   asked-requests many = rw (past-outside 0 mostWork requests zero-le many)
 
   module _ (few : requests ≤ mostWork) where
     judged-requests : outside 0 mostWork requests ≡ false
     judged-requests = not-outside zero-le few
 
-    judged-periods : 1 ≤ n → n ≤ total → outside 1 total n ≡ false
+    judged-periods : 1 ≤ n → n ≤ most → outside 1 most n ≡ false
     judged-periods some inside = not-outside some inside
 
     -- 10: W is 0
-    pub asked-none : n ≡ 0 → askedRefusal total requests n wanted room ≡ 10
+    pub asked-none : n ≡ 0 → askedRefusal most requests n wanted room ≡ 10
     asked-none none = rw (judged-requests, none)
 
-    -- 10: W is past the plan's periods
-    pub asked-past : total < n → askedRefusal total requests n wanted room ≡ 10
-    asked-past past = rw (judged-requests, past-outside 1 total n (omega (arith, past)) past)
+    -- 10: W is past the most periods
+    pub asked-past : most < n → askedRefusal most requests n wanted room ≡ 10
+    asked-past past = rw (judged-requests, past-outside 1 most n (omega (arith, past)) past)
 
     -- 11: the place has no room
-    pub asked-short : 1 ≤ n → n ≤ total → room < wanted → askedRefusal total requests n wanted room ≡ 11
+    pub asked-short : 1 ≤ n → n ≤ most → room < wanted → askedRefusal most requests n wanted room ≡ 11
     asked-short some inside short = rw (judged-requests, judged-periods some inside, lt-ltb room wanted short)
 
     -- none of them
-    pub asked-sound : 1 ≤ n → n ≤ total → wanted ≤ room → askedRefusal total requests n wanted room ≡ 0
+    pub asked-sound : 1 ≤ n → n ≤ most → wanted ≤ room → askedRefusal most requests n wanted room ≡ 0
     asked-sound some inside fits = rw (judged-requests, judged-periods some inside, le-ltb room wanted fits)
 
 -- a plan or a core that is refused is refused before all that follows
@@ -66,16 +66,21 @@ refused-first a b c f e = sym (before-assoc a b c) ∙ refused-before f c e
 sound-first : (a b c : ℕ) → a before b ≡ 0 → a before b before c ≡ c
 sound-first a b c e = sym (before-assoc a b c) ∙ ap (λ (n : ℕ). n before c) e
 
-module _ (p : Plan) (total room : ℕ) (all : total ≡ mostSpan p) (r : Judgement) where
+-- 9, 10, 11 of a question on a plan, judged with so many periods as T
+abbrev AskedJudged : Plan → ℕ → ℕ → ℕ → ℕ → Judgement → Type 0
+AskedJudged p total requests n room r =
+    Judged (askedRefusal (spanLimit (p .repeating) total) requests n (intervals p) room) total r
+
+module _ (p : Plan) (total room : ℕ) (all : total ≡ periods p) (r : Judgement) where
   -- a placement question on a sound plan and core
   pub placement-judged : (core requests n : ℕ)
       → planRefusal p before coreRefusal p core ≡ 0
-      → Judged (askedRefusal total requests n (intervals p) room) total r
+      → AskedJudged p total requests n room r
       → PlacementJudged p core requests n room r
   unfolding placementRefusal
   placement-judged core requests n sound =
       rw (sound-first (planRefusal p) (coreRefusal p core) (askedRefusal (mostSpan p) requests n (intervals p) room) sound)
-      (subst (λ (t : ℕ). Judged (askedRefusal t requests n (intervals p) room) t r) all)
+      (subst (λ (t : ℕ). AskedJudged p t requests n room r) all)
 
 module _ (p : Plan) (w : Workload) (room : ℕ) (sound : planRefusal p before coreRefusal p (w .core) ≡ 0) where
   judged-computing : spanRefusal p w room ≡ computingRefusal (w .computing) before askedRefusal (mostSpan p) (w .requests) (w .horizon) (intervals p) room
@@ -92,11 +97,11 @@ module _ (p : Plan) (w : Workload) (room : ℕ) (sound : planRefusal p before co
 
   -- with computing within its bounds
   pub span-judged : (total : ℕ) (r : Judgement)
-      → total ≡ mostSpan p
+      → total ≡ periods p
       → 1 ≤ w .computing
       → w .computing ≤ mostWork
-      → Judged (askedRefusal total (w .requests) (w .horizon) (intervals p) room) total r
+      → AskedJudged p total (w .requests) (w .horizon) room r
       → SpanJudged p w room r
   span-judged total r all some few h =
       let within : outside 1 mostWork (w .computing) ≡ false = not-outside some few in
-      rw (judged-computing, within) (subst (λ (t : ℕ). Judged (askedRefusal t (w .requests) (w .horizon) (intervals p) room) t r) all h)
+      rw (judged-computing, within) (subst (λ (t : ℕ). AskedJudged p t (w .requests) (w .horizon) room r) all h)

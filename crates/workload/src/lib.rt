@@ -1,4 +1,6 @@
 // The two questions of a plan, judged: refusals 1 to 11 in document 01's order.
+ghost use mathlib.Core.Path.{_≡_};
+ghost use Rattle.meaning.specs.Plan.{spanLimit};
 ghost use Rattle.units.specs.Given.{planOf, workloadOf};
 ghost use Rattle.judge.specs.Judged.{Judged};
 ghost use Rattle.workload.specs.Asked.{askedRefusal, PlacementJudged, SpanJudged};
@@ -12,15 +14,26 @@ use units::Requests;
 use units::Slots;
 use units::Workload;
 
-// The requests, the horizon or given W, and the room of a question, where W is at most so many periods: 9, 10, 11.
+// The most periods that a horizon or a given W has: those of one cycle, T, and 65,535 where the plan repeats.
+fn most_span(repeating: bool, cycle: Periods) -> Periods
+    ensures { λ r. ⌜ r .0 ≡ spanLimit repeating (cycle .0) ⌝ }
+{
+    match repeating {
+        true => Periods(Periods::MAX),
+        false => cycle,
+    }
+}
+
+// The requests, the horizon or given W, and the room of a question on a plan whose cycle has so many periods: 9, 10, 11.
 fn asked(
-    most: Periods,
+    repeating: bool,
+    cycle: Periods,
     requests: Requests,
     periods: Periods,
     intervals: usize,
     room: usize,
 ) -> Judgement
-    ensures { λ r. ⌜ Judged (askedRefusal (most .0) (requests .0) (periods .0) intervals room) (most .0) r ⌝ }
+    ensures { λ r. ⌜ Judged (askedRefusal (spanLimit repeating (cycle .0)) (requests .0) (periods .0) intervals room) (cycle .0) r ⌝ }
 {
     let MadeRequests::Within(_) = Requests::checked(requests.0 as u64) else {
         return Judgement::Refused(Refusal::RequestsOutside);
@@ -28,13 +41,13 @@ fn asked(
     if periods.0 == 0 {
         return Judgement::Refused(Refusal::HorizonOutside);
     }
-    if most.0 < periods.0 {
+    if most_span(repeating, cycle).0 < periods.0 {
         return Judgement::Refused(Refusal::HorizonOutside);
     }
     if room < intervals {
         return Judgement::Refused(Refusal::NoRoom);
     }
-    Judgement::Sound(most)
+    Judgement::Sound(cycle)
 }
 
 // A placement question judged: 1 to 7, then 9, 10, 11.
@@ -50,10 +63,17 @@ pub fn judged_placement(
     ensures { λ r. ⌜ PlacementJudged (planOf head (now (lengths .entry)) (now (budgets .entry))) core (requests .0) (periods .0) room r ⌝ }
 {
     let found = judge::plan_and_core(head, lengths, budgets, core);
-    let Judgement::Sound(total) = found else {
+    let Judgement::Sound(cycle) = found else {
         return found;
     };
-    asked(total, requests, periods, lengths.len(), room)
+    asked(
+        head.repeating,
+        cycle,
+        requests,
+        periods,
+        lengths.len(),
+        room,
+    )
 }
 
 // A span question judged before its search: 1 to 11.
@@ -67,7 +87,7 @@ pub fn judged_span(
     ensures { λ r. ⌜ SpanJudged (planOf head (now (lengths .entry)) (now (budgets .entry))) (workloadOf workload) room r ⌝ }
 {
     let found = judge::plan_and_core(head, lengths, budgets, workload.core);
-    let Judgement::Sound(total) = found else {
+    let Judgement::Sound(cycle) = found else {
         return found;
     };
     if workload.computing.0 == 0 {
@@ -77,7 +97,8 @@ pub fn judged_span(
         return Judgement::Refused(Refusal::ComputingOutside);
     };
     asked(
-        total,
+        head.repeating,
+        cycle,
         workload.requests,
         workload.horizon,
         lengths.len(),

@@ -36,29 +36,35 @@ module _ (f : PlanFile) (place : List ℕ) where
   plan-refused r e = refused (numberOf r) (some-number r) (refused-before r _ e)
 
   module _ (sound : planRefusal (f .plan) ≡ 0) where
-    -- lists of workload values that are wrong
-    pub lists-refused : listsWrong (f .workloads) ≡ true → WritePromise f place (record { refused = 25; bytes = 0 }) place
+    -- a plan that repeats
+    pub mark-refused : f .plan .repeating ≡ true → WritePromise f place (record { refused = 23; bytes = 0 }) place
     unfolding writeRefusal
-    lists-refused wrong = refused 25 (omega arith) (rw (sound, wrong))
+    mark-refused marked = refused 23 (omega arith) (rw (sound, marked))
 
-    module _ (right : listsWrong (f .workloads) ≡ false) where
-      -- a place that is too short
-      pub room-refused : length place < length (fileOf f)
-          → WritePromise f place (record { refused = 11; bytes = 0 }) place
+    module _ (plain : f .plan .repeating ≡ false) where
+      -- lists of workload values that are wrong
+      pub lists-refused : listsWrong (f .workloads) ≡ true → WritePromise f place (record { refused = 25; bytes = 0 }) place
       unfolding writeRefusal
-      room-refused short = refused 11 (omega arith) (rw (sound, right, lt-ltb _ _ short))
+      lists-refused wrong = refused 25 (omega arith) (rw (sound, wrong, plain))
 
-      -- nothing is refused where there is room
-      none-refused : length (fileOf f) ≤ length place → writeRefusal f (length place) ≡ 0
-      unfolding writeRefusal
-      none-refused room = rw (sound, right, le-ltb _ _ room)
+      module _ (right : listsWrong (f .workloads) ≡ false) where
+        -- a place that is too short
+        pub room-refused : length place < length (fileOf f)
+            → WritePromise f place (record { refused = 11; bytes = 0 }) place
+        unfolding writeRefusal
+        room-refused short = refused 11 (omega arith) (rw (sound, right, lt-ltb _ _ short, plain))
 
-      -- the file's bytes stored from the front
-      pub file-written : {after : List ℕ}
-          → length (fileOf f) ≤ length place
-          → after ≡ sets place 0 (fileOf f)
-          → WritePromise f place (record { refused = 0; bytes = length (fileOf f) }) after
-      file-written room bytes = rw (none-refused room) (refl, bytes ∙ sets-front place (fileOf f) room)
+        -- nothing is refused where there is room
+        none-refused : length (fileOf f) ≤ length place → writeRefusal f (length place) ≡ 0
+        unfolding writeRefusal
+        none-refused room = rw (sound, right, le-ltb _ _ room, plain)
+
+        -- the file's bytes stored from the front
+        pub file-written : {after : List ℕ}
+            → length (fileOf f) ≤ length place
+            → after ≡ sets place 0 (fileOf f)
+            → WritePromise f place (record { refused = 0; bytes = length (fileOf f) }) after
+        file-written room bytes = rw (none-refused room) (refl, bytes ∙ sets-front place (fileOf f) room)
 
 -- the three parts of a file: its head, its intervals and its workloads
 abbrev headPart : PlanFile → List ℕ

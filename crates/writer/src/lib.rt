@@ -25,7 +25,7 @@ pub enum WriteAnswer {
 // Writes a plan file. All lists and the place are lent for the call alone. The plan is its head, the periods of each interval, and the
 // budgets, interval by interval, core 1 first; each workload has a core, counted from 1, computing, requests and a horizon at its place in
 // four lists of one length. The file's bytes are written from the front of the place, how many is in the answer, and what lies behind them
-// is kept. On a refusal nothing is written.
+// is kept. On a refusal nothing is written; 23 is a plan that repeats, since a file can't carry the mark.
 pub fn write(
     head: Head,
     lengths: &[u16],
@@ -51,6 +51,9 @@ pub fn write(
 {
     if let Judgement::Refused(refusal) = plan(head, lengths, budgets) {
         return WriteAnswer::Refused(refusal);
+    }
+    if head.repeating {
+        return WriteAnswer::Refused(Refusal::BitsNotZero);
     }
     if lists_wrong(analysed, computing, requests, horizons) {
         return WriteAnswer::Refused(Refusal::WorkloadListsWrong);

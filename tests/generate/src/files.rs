@@ -76,6 +76,7 @@ pub fn example() -> Records {
     let plan = Plan {
         cores: 4,
         slots_per_period: 16,
+        mark: 0,
         lengths: vec![1, 4],
         budgets: vec![2, 2, 5, 7, 4, 4, 4, 4],
     };

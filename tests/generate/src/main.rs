@@ -4,7 +4,9 @@
 mod damage;
 mod files;
 mod fit;
+mod marks;
 mod measured;
+mod measured_cycles;
 mod plans;
 mod questions;
 mod random;
@@ -13,7 +15,7 @@ mod sweep;
 mod workloads;
 mod written;
 
-use std::io::{self, BufRead, BufWriter, Write};
+use std::io::{self, BufRead, BufWriter, Read, Write};
 use std::path::Path;
 use std::process::ExitCode;
 
@@ -24,7 +26,8 @@ const USAGE: &str = "usage: generate questions | stored | small | runs SEED COUN
        generate measured DIR
        generate sweep [NUMBER]
        generate lines
-       generate written < ANSWERS";
+       generate written < ANSWERS
+       generate marks < QUESTIONS";
 
 /// Question `number` under a seed.
 type Stream = fn(u64, u64) -> Vec<u8>;
@@ -61,6 +64,7 @@ fn run(words: &[&str]) -> Option<io::Result<()>> {
         }
         ["lines"] => Some(write_lines()),
         ["written"] => Some(write_written()),
+        ["marks"] => Some(write_marks()),
         [mode, seed, count, first @ ..] => {
             let stream: Stream = match *mode {
                 "questions" => questions::mixed,
@@ -115,6 +119,17 @@ fn write_written() -> io::Result<()> {
         if let Some(question) = written::question(&line?) {
             output.write_all(&question)?;
         }
+    }
+    output.flush()
+}
+
+/// A line for each question of a stream.
+fn write_marks() -> io::Result<()> {
+    let mut stream = Vec::new();
+    io::stdin().lock().read_to_end(&mut stream)?;
+    let mut output = BufWriter::new(io::stdout().lock());
+    for line in marks::lines(&stream) {
+        writeln!(output, "{line}")?;
     }
     output.flush()
 }

@@ -1,9 +1,10 @@
-//! The plan files that `bench/run` measures; always the same.
+//! The plan files and questions that `bench/run` measures; always the same.
 
 use std::io;
 use std::path::Path;
 
 use crate::files;
+use crate::measured_cycles;
 use crate::plans::{parts, CorePlan, Plan, MOST_PERIODS, MOST_SLOTS};
 use crate::random::Random;
 use crate::workloads::Workload;
@@ -24,7 +25,7 @@ const BASE: Grown = Grown {
 };
 const GROWTH_WORKLOADS: u64 = 16;
 
-/// Writes every measured file into the folder.
+/// Writes every measured file and stream into the folder.
 pub fn write_files(folder: &Path) -> io::Result<()> {
     std::fs::create_dir_all(folder)?;
     let write = |name: String, bytes: Vec<u8>| std::fs::write(folder.join(name), bytes);
@@ -47,7 +48,9 @@ pub fn write_files(folder: &Path) -> io::Result<()> {
     for rounds in [10, 100, 1_000, 10_000] {
         write(format!("rounds-{rounds}.plan"), of_rounds(rounds))?;
     }
-    Ok(())
+    let [repeating, plain] = measured_cycles::streams();
+    write("repeating.questions".to_string(), repeating)?;
+    write("plain.questions".to_string(), plain)
 }
 
 /// A plan of 64 intervals of nearly equal length in which every core has a
@@ -70,6 +73,7 @@ fn long_plan(random: &mut Random, slots: u64, periods: u64, first_budget: Option
     Plan {
         cores: CORES as u8,
         slots_per_period: slots as u32,
+        mark: 0,
         lengths,
         budgets,
     }
@@ -79,10 +83,7 @@ fn long_plan(random: &mut Random, slots: u64, periods: u64, first_budget: Option
 /// as it has work, within spans spread over the whole plan.
 fn longest() -> Vec<u8> {
     let random = &mut Random::new(SEED, 1);
-    let mut seen = CorePlan {
-        plan: long_plan(random, SLOTS, PERIODS, None),
-        core: 1,
-    };
+    let mut seen = CorePlan::plain(long_plan(random, SLOTS, PERIODS, None), 1);
     let mut listed = Vec::new();
     for number in 0..256 {
         seen.core = (number % CORES) as u8 + 1;
@@ -144,6 +145,7 @@ fn grown(plan: &Grown) -> Vec<u8> {
     let plan = Plan {
         cores: plan.cores as u8,
         slots_per_period: slots as u32,
+        mark: 0,
         lengths: vec![(PERIODS / plan.intervals as u64) as u16; plan.intervals],
         budgets: column.repeat(plan.intervals),
     };

@@ -12,9 +12,19 @@ pub const MOST_OF_A_WORKLOAD: u64 = 4_294_836_225;
 pub struct Plan {
     pub cores: u8,
     pub slots_per_period: u32,
+    /// 0 for a plain plan, anything else for a repeating one; a file has no
+    /// place for it.
+    pub mark: u8,
     pub lengths: Vec<u16>,
     /// Interval by interval, core 1 first.
     pub budgets: Vec<u16>,
+}
+
+impl Plan {
+    /// T; of a repeating plan, the length of one cycle.
+    pub fn total_periods(&self) -> u64 {
+        self.lengths.iter().map(|&length| u64::from(length)).sum()
+    }
 }
 
 /// A sound plan with a core that has a budget in every interval.
@@ -22,15 +32,24 @@ pub struct CorePlan {
     pub plan: Plan,
     /// Counted from 1.
     pub core: u8,
+    /// The longest span and horizon that are asked for: T, or for a repeating
+    /// plan anything up to 65,535.
+    pub reach: u64,
 }
 
 impl CorePlan {
+    /// A plain plan, which reaches to its end.
+    pub fn plain(plan: Plan, core: u8) -> Self {
+        let reach = plan.total_periods();
+        CorePlan { plan, core, reach }
+    }
+
+    pub fn is_repeating(&self) -> bool {
+        self.plan.mark != 0
+    }
+
     pub fn total_periods(&self) -> u64 {
-        self.plan
-            .lengths
-            .iter()
-            .map(|&length| u64::from(length))
-            .sum()
+        self.plan.total_periods()
     }
 
     pub fn interval_budgets(&self, interval: usize) -> &[u16] {
@@ -42,13 +61,16 @@ impl CorePlan {
         u64::from(self.interval_budgets(interval)[usize::from(self.core) - 1])
     }
 
-    /// The periods of each interval at a span.
+    /// The periods of each interval at a span: its length for each full cycle
+    /// and its part of what is left.
     pub fn shares(&self, span: u64) -> Vec<u64> {
-        let mut left = span;
+        let full_cycles = span / self.total_periods();
+        let mut left = span % self.total_periods();
         let mut shares = Vec::new();
         for &length in &self.plan.lengths {
-            shares.push(left.min(u64::from(length)));
-            left -= left.min(u64::from(length));
+            let part = left.min(u64::from(length));
+            shares.push(full_cycles * u64::from(length) + part);
+            left -= part;
         }
         shares
     }
@@ -92,6 +114,9 @@ pub const SMALL: Limits = Limits {
     intervals: 4,
     periods: 12,
 };
+
+/// Short cycles have at most so many periods.
+const SHORT_CYCLE: u64 = 10;
 
 #[derive(Clone, Copy, PartialEq, Eq)]
 enum Shape {
@@ -149,18 +174,62 @@ pub fn sound(random: &mut Random, limits: &Limits) -> CorePlan {
     framed(random, shape, &frame, lengths)
 }
 
+/// A sound plan that repeats, mostly with a short cycle, for spans up to
+/// `reach` periods or T, whichever is more.
+pub fn repeating(random: &mut Random, limits: &Limits, reach: u64) -> CorePlan {
+    let cycle = match random.below(6) {
+        0 | 1 => random.between(1, SHORT_CYCLE.min(limits.periods)),
+        2 | 3 => random.any_size(1, limits.periods),
+        _ => limits.periods,
+    };
+    let within = Limits {
+        intervals: limits.intervals.min(cycle),
+        periods: cycle,
+        ..*limits
+    };
+    let seen = sound(random, &within);
+    marked(random, seen, reach)
+}
+
+/// The plan marked as repeating.
+fn marked(random: &mut Random, mut seen: CorePlan, reach: u64) -> CorePlan {
+    seen.plan.mark = some_mark(random);
+    seen.reach = reach.max(seen.total_periods());
+    seen
+}
+
+/// A byte that marks a plan as repeating.
+pub fn some_mark(random: &mut Random) -> u8 {
+    random.pick(&[1, 1, 1, 2, 128, 255])
+}
+
 /// A plan whose core has a budget of 1, with so many slots and periods that a
 /// search goes on for tens of thousands of rounds.
 pub fn many_rounds(random: &mut Random) -> CorePlan {
-    let cores = random.between(2, WHOLE.cores);
-    let frame = Frame {
-        cores: cores as usize,
-        own: random.below(cores) as usize,
-        slots: random.between(60_000, MOST_SLOTS),
-    };
+    let frame = many_rounds_frame(random);
     let intervals = intervals(random, &WHOLE);
     let lengths = lengths(random, &WHOLE, intervals, true);
     framed(random, Shape::OwnBudgetOne, &frame, lengths)
+}
+
+/// The same with a plan that repeats and goes round thousands of times.
+pub fn many_rounds_of_cycles(random: &mut Random) -> CorePlan {
+    let frame = many_rounds_frame(random);
+    let periods = random.between(1, SHORT_CYCLE);
+    let within = Limits { periods, ..WHOLE };
+    let intervals = random.between(1, periods);
+    let lengths = lengths(random, &within, intervals, false);
+    let seen = framed(random, Shape::OwnBudgetOne, &frame, lengths);
+    marked(random, seen, MOST_PERIODS)
+}
+
+fn many_rounds_frame(random: &mut Random) -> Frame {
+    let cores = random.between(2, WHOLE.cores);
+    Frame {
+        cores: cores as usize,
+        own: random.below(cores) as usize,
+        slots: random.between(60_000, MOST_SLOTS),
+    }
 }
 
 fn frame(random: &mut Random, shape: Shape, limits: &Limits) -> Frame {
@@ -187,15 +256,14 @@ fn frame(random: &mut Random, shape: Shape, limits: &Limits) -> Frame {
 fn framed(random: &mut Random, shape: Shape, frame: &Frame, lengths: Vec<u16>) -> CorePlan {
     let columns = columns(random, shape, frame, lengths.len());
     let budgets = columns.concat().into_iter().map(|budget| budget as u16);
-    CorePlan {
-        plan: Plan {
-            cores: frame.cores as u8,
-            slots_per_period: frame.slots as u32,
-            lengths,
-            budgets: budgets.collect(),
-        },
-        core: frame.own as u8 + 1,
-    }
+    let plan = Plan {
+        cores: frame.cores as u8,
+        slots_per_period: frame.slots as u32,
+        mark: 0,
+        lengths,
+        budgets: budgets.collect(),
+    };
+    CorePlan::plain(plan, frame.own as u8 + 1)
 }
 
 /// A plan whose records are as long as can be: 64 intervals, and a budget for
@@ -207,15 +275,14 @@ pub fn longest(random: &mut Random) -> CorePlan {
         let beyond = parts(random, slots - WHOLE.cores, WHOLE.cores as usize);
         budgets.extend(beyond.iter().map(|&more| more as u16 + 1));
     }
-    CorePlan {
-        plan: Plan {
-            cores: WHOLE.cores as u8,
-            slots_per_period: slots as u32,
-            lengths: lengths(random, &WHOLE, WHOLE.intervals, false),
-            budgets,
-        },
-        core: random.between(1, WHOLE.cores) as u8,
-    }
+    let plan = Plan {
+        cores: WHOLE.cores as u8,
+        slots_per_period: slots as u32,
+        mark: 0,
+        lengths: lengths(random, &WHOLE, WHOLE.intervals, false),
+        budgets,
+    };
+    CorePlan::plain(plan, random.between(1, WHOLE.cores) as u8)
 }
 
 fn intervals(random: &mut Random, limits: &Limits) -> u64 {

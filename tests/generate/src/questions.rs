@@ -2,28 +2,40 @@
 
 use crate::files;
 use crate::fit::Curves;
-use crate::plans::{self, CorePlan, Limits, Plan, MOST_OF_A_WORKLOAD};
+use crate::plans::{self, CorePlan, Limits, Plan, MOST_OF_A_WORKLOAD, MOST_PERIODS};
 use crate::random::Random;
 use crate::refusals::{some_of, spoil_plan};
 use crate::workloads::{self, Workload};
 
 const RAW: u8 = 1;
 const CORNERS: u8 = 2;
-const PLACEMENT: u8 = 3;
-const SPAN: u8 = 4;
-const READ: u8 = 5;
-const WRITE: u8 = 6;
+pub const PLACEMENT: u8 = 3;
+pub const SPAN: u8 = 4;
+pub const READ: u8 = 5;
+pub const WRITE: u8 = 6;
 
-/// One in so many questions is a search of very many rounds.
+/// One in so many questions is a search of very many rounds; of these, one in
+/// so many is on a plan that repeats.
 const MANY_ROUNDS_ONE_IN: u64 = 400;
+const OF_CYCLES_ONE_IN: u64 = 4;
+
+/// One in so many placements and spans is on a plan that repeats, and one in
+/// so many of the one-interval questions has the mark.
+const REPEATING_ONE_IN: u64 = 3;
+const MARKED_ONE_IN: u64 = 4;
 
 /// One in so many of the stored questions has any size; the others' records
 /// have at most so many bytes.
 const ANY_SIZE_ONE_IN: u64 = 40;
 const SMALL_RECORD: usize = 120;
 
-/// Plans for the plain search have at most so many placements.
+/// Plans for the plain search have at most so many placements, and those that
+/// repeat mostly at most so many periods.
 const MOST_PLACEMENTS: u64 = 20_000;
+const SEARCHED_PERIODS: u64 = 40;
+
+/// A plain search up to any horizon has at most so many requests.
+const FEW_REQUESTS: u32 = 60;
 
 /// A program that answers may end at a longer body.
 const MOST_BODY: usize = 16_384;
@@ -42,16 +54,17 @@ struct Asked {
 }
 
 impl Asked {
+    /// With room for a placement. The horizon may stand for a given span.
     fn new(kind: u8, seen: CorePlan, workload: Workload) -> Self {
         Asked {
             kind,
             core: seen.core,
+            room: seen.plan.lengths.len() as u8,
             plan: seen.plan,
             rate: 0,
             computing: workload.computing,
             requests: workload.requests,
             periods: workload.horizon,
-            room: 0,
         }
     }
 
@@ -59,6 +72,7 @@ impl Asked {
         let plan = &self.plan;
         let mut body = vec![plan.cores, self.core];
         body.extend(plan.slots_per_period.to_le_bytes());
+        body.push(plan.mark);
         match self.kind {
             RAW => body.extend(self.rate.to_le_bytes()),
             CORNERS => body.push(self.room),
@@ -97,17 +111,12 @@ impl Asked {
 
     fn spoil(&mut self, random: &mut Random, refusal: u8) {
         let past_limit = MOST_OF_A_WORKLOAD as u32 + 1;
-        let total: u64 = self
-            .plan
-            .lengths
-            .iter()
-            .map(|&length| u64::from(length))
-            .sum();
-        let past_total = (total + 1).min(65_535) as u16;
+        let past_total = (self.plan.total_periods() + 1).min(65_535) as u16;
         match refusal {
             6 => self.core = random.pick(&[0, self.plan.cores.wrapping_add(1), 9, 255]),
             8 => self.computing = random.pick(&[0, past_limit, u32::MAX]),
             9 => self.requests = random.pick(&[past_limit, past_limit, u32::MAX]),
+            10 if self.plan.mark != 0 => self.periods = 0,
             10 => self.periods = random.pick(&[0, past_total, past_total, 65_535]),
             11 => self.room = random.pick(&[0, self.room.saturating_sub(1)]),
             13 => {
@@ -189,11 +198,10 @@ fn of_kind(random: &mut Random, kind: u8) -> Vec<u8> {
 pub fn small(seed: u64, number: u64) -> Vec<u8> {
     let random = &mut Random::new(seed, number);
     let (seen, workload) = searchable(random);
-    let room = seen.plan.lengths.len() as u8;
     let span = workloads::some_span(random, &seen);
     let kind = random.pick(&[PLACEMENT, SPAN]);
     let mut asked = Asked::new(kind, seen, workload);
-    asked.room = room + random.pick(&[0, 0, 1]);
+    asked.room += random.pick(&[0, 0, 1]);
     if kind == PLACEMENT {
         asked.periods = span as u16;
     }
@@ -203,18 +211,49 @@ pub fn small(seed: u64, number: u64) -> Vec<u8> {
 /// A plan and a workload with so few placements that all can be looked at,
 /// and often with no fewer than some hundreds.
 fn searchable(random: &mut Random) -> (CorePlan, Workload) {
+    let repeating = random.one_in(REPEATING_ONE_IN);
+    if repeating && random.one_in(8) {
+        return few_requests_going_round(random, &plans::SMALL);
+    }
+    let draw = |random: &mut Random| match repeating {
+        true => plans::repeating(random, &plans::SMALL, SEARCHED_PERIODS),
+        false => plans::sound(random, &plans::SMALL),
+    };
     let least = random.pick(&[1, 20, 200, 1_000]);
     for _ in 0..200 {
-        let seen = plans::sound(random, &plans::SMALL);
-        let workload = workloads::aimed(random, &seen);
+        let mut seen = draw(random);
+        let mut workload = workloads::aimed(random, &seen);
         let placements = workloads::placements(&seen, workload.requests);
         if (least..=MOST_PLACEMENTS).contains(&placements) {
+            reach_on(random, &mut seen, &mut workload);
             return (seen, workload);
         }
     }
-    let seen = plans::sound(random, &plans::SMALL);
+    let seen = draw(random);
     let mut workload = workloads::aimed(random, &seen);
     workload.requests = 0;
+    (seen, workload)
+}
+
+/// For some plans that repeat the horizon, or the given span, may be any; the
+/// few requests are placed before long.
+fn reach_on(random: &mut Random, seen: &mut CorePlan, workload: &mut Workload) {
+    let reach = std::mem::replace(&mut seen.reach, MOST_PERIODS);
+    let few = workload.requests <= FEW_REQUESTS
+        && workloads::placements(seen, workload.requests) <= MOST_PLACEMENTS;
+    if seen.is_repeating() && few && random.one_in(3) {
+        workload.horizon = workloads::some_span(random, seen) as u16;
+    } else {
+        seen.reach = reach;
+    }
+}
+
+/// A plan that repeats and a workload with few requests, for a span near the
+/// longest there is.
+fn few_requests_going_round(random: &mut Random, limits: &Limits) -> (CorePlan, Workload) {
+    let seen = plans::repeating(random, limits, MOST_PERIODS);
+    let requests = random.below(10);
+    let workload = workloads::going_round_with(random, &seen, requests);
     (seen, workload)
 }
 
@@ -223,25 +262,45 @@ fn searchable(random: &mut Random) -> (CorePlan, Workload) {
 pub fn for_runs(seed: u64, number: u64) -> Vec<u8> {
     let random = &mut Random::new(seed, number);
     let limits = random.pick(&[&plans::SMALL, &plans::MIDDLE, &plans::MIDDLE]);
-    let seen = plans::sound(random, limits);
+    let repeating = random.one_in(REPEATING_ONE_IN);
+    let (seen, mut workload) = match repeating && random.one_in(10) {
+        true => few_requests_going_round(random, limits),
+        false => for_whole_runs(random, limits, repeating),
+    };
+    workload.horizon = seen.reach as u16;
+    if repeating && random.one_in(2) {
+        workload.horizon = MOST_PERIODS as u16;
+    }
+    Asked::new(SPAN, seen, workload).record()
+}
+
+/// A plan and a workload with spans of up to as many periods as a plain plan
+/// within the limits has.
+fn for_whole_runs(random: &mut Random, limits: &Limits, repeating: bool) -> (CorePlan, Workload) {
+    let seen = match repeating {
+        true => plans::repeating(random, limits, limits.periods),
+        false => plans::sound(random, limits),
+    };
     let mut workload = workloads::just_fitting(random, &seen);
     if random.one_in(3) {
         workload = workloads::aimed(random, &seen);
     }
-    workload.horizon = seen.total_periods() as u16;
-    let room = seen.plan.lengths.len() as u8;
-    let mut asked = Asked::new(SPAN, seen, workload);
-    asked.room = room;
-    asked.record()
+    (seen, workload)
 }
 
 fn many_rounds(random: &mut Random) -> Asked {
-    let seen = plans::many_rounds(random);
+    let seen = match random.one_in(OF_CYCLES_ONE_IN) {
+        true => plans::many_rounds_of_cycles(random),
+        false => plans::many_rounds(random),
+    };
     let workload = workloads::of_many_rounds(random, &seen);
-    let room = seen.plan.lengths.len() as u8;
-    let mut asked = Asked::new(SPAN, seen, workload);
-    asked.room = room;
-    asked
+    Asked::new(SPAN, seen, workload)
+}
+
+/// The question "span", or with the horizon as the given span the question
+/// "placement", with room for the placement.
+pub fn workload_record(kind: u8, seen: CorePlan, workload: Workload) -> Vec<u8> {
+    Asked::new(kind, seen, workload).record()
 }
 
 /// A question of one of the first four kinds; a third of them with faults.
@@ -250,7 +309,7 @@ fn asked(random: &mut Random, kind: u8) -> Asked {
         RAW | CORNERS => &plans::ONE_INTERVAL,
         _ => random.pick(&[&plans::WHOLE, &plans::WHOLE, &plans::MIDDLE]),
     };
-    let seen = plans::sound(random, limits);
+    let seen = sound_or_marked(random, kind, limits);
     let workload = workloads::aimed(random, &seen);
     let span = workloads::some_span(random, &seen);
     let requests = workloads::some_requests(random, &seen, span);
@@ -273,6 +332,20 @@ fn asked(random: &mut Random, kind: u8) -> Asked {
         }
     }
     asked
+}
+
+/// Some plans are marked as repeating, which the one-interval questions do not
+/// read.
+fn sound_or_marked(random: &mut Random, kind: u8, limits: &Limits) -> CorePlan {
+    let one_interval = matches!(kind, RAW | CORNERS);
+    if !one_interval && random.one_in(REPEATING_ONE_IN) {
+        return plans::repeating(random, limits, MOST_PERIODS);
+    }
+    let mut seen = plans::sound(random, limits);
+    if one_interval && random.one_in(MARKED_ONE_IN) {
+        seen.plan.mark = plans::some_mark(random);
+    }
+    seen
 }
 
 /// A rate of 0 to the budget, often at the other cores' budgets or the ends.
@@ -349,11 +422,12 @@ fn writing(random: &mut Random) -> Vec<u8> {
     let mut room = files::bytes(&seen.plan, &listed).len() as u64;
     room += random.pick(&[0, 0, 1, 20]);
     let mut lists = Lists::new(&listed);
-    let CorePlan { mut plan, core } = seen;
+    let CorePlan { mut plan, core, .. } = seen;
     if random.one_in(3) {
-        for refusal in some_of(random, &[1, 2, 3, 4, 5, 25, 11]) {
+        for refusal in some_of(random, &[1, 2, 3, 4, 5, 23, 25, 11]) {
             match refusal {
                 11 => room = random.pick(&[0, room.max(1) - 1, room / 2]),
+                23 => plan.mark = plans::some_mark(random),
                 25 => lists.spoil(random),
                 _ => spoil_plan(random, &mut plan, core, refusal),
             }
@@ -365,6 +439,7 @@ fn writing(random: &mut Random) -> Vec<u8> {
 pub fn write_record(plan: &Plan, lists: &Lists, room: u16) -> Vec<u8> {
     let mut body = vec![plan.cores];
     body.extend(plan.slots_per_period.to_le_bytes());
+    body.push(plan.mark);
     body.extend(room.to_le_bytes());
     body.push(plan.lengths.len() as u8);
     let counts = [

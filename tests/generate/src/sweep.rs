@@ -120,6 +120,7 @@ fn masked(cores: u8, mask: u8, listed: usize) -> Vec<u8> {
     let plan = Plan {
         cores,
         slots_per_period: u32::from(SLOTS),
+        mark: 0,
         lengths: vec![3],
         budgets: Vec::new(),
     };
@@ -227,6 +228,7 @@ fn sized(lengths: &[u16], workloads: usize) -> Records {
     let plan = Plan {
         cores: MOST_CORES as u8,
         slots_per_period: column.iter().copied().map(u32::from).sum(),
+        mark: 0,
         lengths: lengths.to_vec(),
         budgets: column.repeat(lengths.len()),
     };

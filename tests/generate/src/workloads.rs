@@ -17,12 +17,43 @@ fn workload(seen: &CorePlan, computing: u64, requests: u64, horizon: u64) -> Wor
         core: seen.core,
         computing: computing.clamp(1, MOST_OF_A_WORKLOAD) as u32,
         requests: requests.min(MOST_OF_A_WORKLOAD) as u32,
-        horizon: horizon.clamp(1, seen.total_periods()) as u16,
+        horizon: horizon.clamp(1, seen.reach) as u16,
     }
 }
 
-/// A span of 1 to T: the ends, the ends of intervals and beside them, or any.
+/// A span of 1 to as far as the plan reaches.
 pub fn some_span(random: &mut Random, seen: &CorePlan) -> u64 {
+    match seen.is_repeating() {
+        true => span_of_cycles(random, seen),
+        false => span_in_cycle(random, seen),
+    }
+}
+
+/// At the end of some cycle or beside it, at a border of some cycle, as far as
+/// can be, at T and one more, or any.
+fn span_of_cycles(random: &mut Random, seen: &CorePlan) -> u64 {
+    let total = seen.total_periods();
+    let cycles = match random.one_in(2) {
+        true => random.any_size(1, seen.reach / total),
+        false => random.between(1, seen.reach / total),
+    };
+    let before = (cycles - 1) * total;
+    let span = match random.below(10) {
+        0 => cycles * total - 1,
+        1 => cycles * total,
+        2 => cycles * total + 1,
+        3 | 4 => before + span_in_cycle(random, seen),
+        5 => seen.reach,
+        6 => total,
+        7 => total + 1,
+        8 => random.between(1, seen.reach),
+        _ => random.any_size(1, seen.reach),
+    };
+    span.clamp(1, seen.reach)
+}
+
+/// A span of 1 to T: the ends, the ends of intervals and beside them, or any.
+fn span_in_cycle(random: &mut Random, seen: &CorePlan) -> u64 {
     let total = seen.total_periods();
     let lengths = &seen.plan.lengths;
     let ended = random.between(1, lengths.len() as u64) as usize;
@@ -69,14 +100,27 @@ fn at_corners(random: &mut Random, seen: &CorePlan, span: u64) -> u64 {
 
 /// A workload whose values are within their bounds.
 pub fn aimed(random: &mut Random, seen: &CorePlan) -> Workload {
-    let total = seen.total_periods();
+    if !seen.is_repeating() {
+        return of_any_kind(random, seen);
+    }
+    let mut drawn = match random.one_in(6) {
+        true => going_round(random, seen),
+        false => of_any_kind(random, seen),
+    };
+    if random.one_in(6) {
+        drawn.horizon = some_span(random, seen) as u16;
+    }
+    drawn
+}
+
+fn of_any_kind(random: &mut Random, seen: &CorePlan) -> Workload {
     let slots = u64::from(seen.plan.slots_per_period);
     match random.below(14) {
         0 => {
             let computing = random.any_size(1, MOST_OF_A_WORKLOAD);
             let requests = random.any_size(0, MOST_OF_A_WORKLOAD);
-            let inside = random.between(1, total);
-            let horizon = random.pick(&[1, total, inside]);
+            let inside = random.between(1, seen.reach);
+            let horizon = random.pick(&[1, seen.reach, inside]);
             workload(seen, computing, requests, horizon)
         }
         1 => at_limits(random, seen),
@@ -86,42 +130,77 @@ pub fn aimed(random: &mut Random, seen: &CorePlan) -> Workload {
             workload(seen, computing, 0, span + random.below(2))
         }
         3 => {
-            let requests = seen.capacity(total) + random.below(2);
-            workload(seen, random.any_size(1, slots), requests, total)
+            let span = far_span(random, seen);
+            let requests = seen.capacity(span) + random.below(2);
+            workload(seen, random.any_size(1, slots), requests, seen.reach)
         }
         4 => {
-            let requests = some_requests(random, seen, total);
-            workload(seen, random.any_size(1, slots), requests, total)
+            let span = far_span(random, seen);
+            let requests = some_requests(random, seen, span);
+            workload(seen, random.any_size(1, slots), requests, seen.reach)
         }
         5..=7 => mostly_stall(random, seen),
         _ => just_fitting(random, seen),
     }
 }
 
-fn at_limits(random: &mut Random, seen: &CorePlan) -> Workload {
+/// T, or any number of whole cycles.
+fn far_span(random: &mut Random, seen: &CorePlan) -> u64 {
     let total = seen.total_periods();
+    match seen.is_repeating() {
+        true => total * random.any_size(1, seen.reach / total),
+        false => total,
+    }
+}
+
+/// A span as long as the plan reaches, or not much shorter: with a short cycle
+/// the work goes round thousands of times.
+fn going_round(random: &mut Random, seen: &CorePlan) -> Workload {
+    let span = seen.reach - random.any_size(0, seen.reach / 50);
+    fitting(random, seen, span)
+}
+
+/// The same with so many requests.
+pub fn going_round_with(random: &mut Random, seen: &CorePlan, requests: u64) -> Workload {
+    let span = seen.reach - random.any_size(0, seen.reach / 50);
+    fitting_with(random, seen, span, requests.min(seen.capacity(span)))
+}
+
+fn at_limits(random: &mut Random, seen: &CorePlan) -> Workload {
     let computing = random.pick(&[1, MOST_OF_A_WORKLOAD, MOST_OF_A_WORKLOAD - 1]);
     // Both together just past four bytes.
     let past = (1 << 32) + random.any_size(0, 65_536) - computing;
     let requests = random.pick(&[0, 0, 1, MOST_OF_A_WORKLOAD, past, past]);
-    workload(seen, computing, requests, random.pick(&[1, total, total]))
+    let horizon = random.pick(&[1, seen.reach, seen.reach]);
+    workload(seen, computing, requests, horizon)
 }
 
 /// Little computing and many requests, so that a search has many rounds.
 fn mostly_stall(random: &mut Random, seen: &CorePlan) -> Workload {
-    let total = seen.total_periods();
-    let span = random.between(1, total);
+    let span = match seen.is_repeating() {
+        true => random.any_size(1, seen.reach),
+        false => random.between(1, seen.reach),
+    };
     let requests = random.between(0, seen.capacity(span));
     let slots = u64::from(seen.plan.slots_per_period);
-    workload(seen, random.any_size(1, slots), requests, total)
+    workload(seen, random.any_size(1, slots), requests, seen.reach)
 }
 
 /// Computing that leaves no slot of some span over, or one slot more or less;
 /// the horizon at that span or beside it.
 pub fn just_fitting(random: &mut Random, seen: &CorePlan) -> Workload {
     let span = some_span(random, seen);
+    fitting(random, seen, span)
+}
+
+fn fitting(random: &mut Random, seen: &CorePlan, span: u64) -> Workload {
+    let requests = some_requests(random, seen, span).min(seen.capacity(span));
+    fitting_with(random, seen, span, requests)
+}
+
+/// So many requests, or fewer if they do not fit.
+fn fitting_with(random: &mut Random, seen: &CorePlan, span: u64, mut requests: u64) -> Workload {
     let slots = span * u64::from(seen.plan.slots_per_period);
-    let mut requests = some_requests(random, seen, span).min(seen.capacity(span));
     let fewer = random.pick(&[1, 8, 64]);
     let curves = Curves::new(seen);
     let computing = loop {
@@ -132,33 +211,32 @@ pub fn just_fitting(random: &mut Random, seen: &CorePlan) -> Workload {
         requests -= requests.div_ceil(fewer).max(1);
     };
     let computing = (computing + random.pick(&[1, 1, 1, 2, 0])).saturating_sub(1);
-    let horizon = random.pick(&[span - 1, span, span, span + 1, seen.total_periods()]);
+    let horizon = random.pick(&[span - 1, span, span, span + 1, seen.reach]);
     workload(seen, computing, requests, horizon)
 }
 
 /// For a core with a budget of 1: a search of very many rounds.
 pub fn of_many_rounds(random: &mut Random, seen: &CorePlan) -> Workload {
-    let total = seen.total_periods();
-    let requests = random.between(total / 3, total);
-    workload(seen, random.any_size(1, 100_000), requests, total)
+    let requests = random.between(seen.reach / 3, seen.reach);
+    workload(seen, random.any_size(1, 100_000), requests, seen.reach)
 }
 
 /// A workload whose search is short: few requests.
 pub fn light(random: &mut Random, seen: &CorePlan) -> Workload {
-    let total = seen.total_periods();
     let computing = random.any_size(1, MOST_OF_A_WORKLOAD);
     let requests = random.any_size(0, 40);
-    workload(seen, computing, requests, random.any_size(1, total))
+    let horizon = random.any_size(1, seen.reach);
+    workload(seen, computing, requests, horizon)
 }
 
-/// No fewer than the ways to place the requests in the whole plan.
+/// No fewer than the ways to place the requests as far as the plan reaches.
 pub fn placements(seen: &CorePlan, requests: u32) -> u64 {
-    let shares = seen.shares(seen.total_periods()).into_iter().enumerate();
+    let shares = seen.shares(seen.reach).into_iter().enumerate();
     let ways = shares.map(|(interval, share)| {
         let most = share * seen.own_budget(interval);
         most.min(u64::from(requests)) + 1
     });
-    ways.product()
+    ways.fold(1, u64::saturating_mul)
 }
 
 /// Values that the reader takes and the span question may refuse.

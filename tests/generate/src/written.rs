@@ -14,14 +14,15 @@ pub fn question(line: &str) -> Option<Vec<u8>> {
     let [results, lengths, budgets, workload_places @ ..] = &parts[..] else {
         return None;
     };
-    let results: Vec<usize> = front(results, 4)?;
-    let (cores, intervals, workloads) = (results[0], results[2], results[3]);
+    let results: Vec<usize> = front(results, 5)?;
+    let (cores, intervals, workloads) = (results[0], results[3], results[4]);
     if cores == 0 {
         return None;
     }
     let plan = Plan {
         cores: u8::try_from(cores).ok()?,
         slots_per_period: u32::try_from(results[1]).ok()?,
+        mark: u8::try_from(results[2]).ok()?,
         lengths: front(lengths, intervals)?,
         budgets: front(budgets, intervals * cores)?,
     };

@@ -40,6 +40,13 @@ struct Tally {
     unlawful: usize,
     reached: usize,
     searched: usize,
+    /// Tasks on repeating plans whose span has more periods than one cycle,
+    /// and how many of these were reached and searched.
+    past_cycle: usize,
+    past_cycle_reached: usize,
+    past_cycle_searched: usize,
+    /// The largest number of full cycles in a span.
+    cycles: usize,
     rows: Vec<String>,
 }
 
@@ -51,8 +58,16 @@ impl Tally {
             self.judge(number, task, MAKERS[maker], &run);
             longest[maker] = longest[maker].max(Some(run.len()));
         }
-        self.searched += usize::from(longest[MAKERS.len() - 1].is_some());
-        self.reached += usize::from(longest.iter().max() >= Some(&Some(task.span)));
+        let searched = usize::from(longest[MAKERS.len() - 1].is_some());
+        let reached = usize::from(longest.iter().max() >= Some(&Some(task.span)));
+        self.searched += searched;
+        self.reached += reached;
+        if task.span > task.total_periods() {
+            self.past_cycle += 1;
+            self.past_cycle_reached += reached;
+            self.past_cycle_searched += searched;
+        }
+        self.cycles = self.cycles.max(task.span / task.total_periods());
         // Where the greedy run lasts as long, the stall makes no difference.
         if self.rows.len() < SHOWN && longest[0] < Some(task.span) {
             self.rows.push(row(number, task, &longest));
@@ -88,9 +103,9 @@ impl Tally {
     }
 
     fn print(&self) {
-        let columns = "question | cores | Q | T | computing | requests | span";
+        let columns = "question | cores | Q | T | repeats | computing | requests | span";
         println!("| {columns} | {} |", MAKERS.join(" | "));
-        println!("|{}", "---|".repeat(7 + MAKERS.len()));
+        println!("|{}", "---|".repeat(8 + MAKERS.len()));
         for row in &self.rows {
             println!("{row}");
         }
@@ -104,6 +119,10 @@ impl Tally {
             self.full,
             self.reached,
             self.tasks
+        );
+        println!(
+            "{} spans past one cycle, {} of them searched, {} reached; {} full cycles at most",
+            self.past_cycle, self.past_cycle_searched, self.past_cycle_reached, self.cycles
         );
         println!(
             "{} runs too long, {} full with work left, {} not lawful",
@@ -132,8 +151,9 @@ fn runs(task: &Task, random: &mut Random) -> Vec<(usize, Run)> {
 
 fn row(number: usize, task: &Task, longest: &Longest) -> String {
     let periods = task.total_periods();
+    let repeats = if task.repeating { "yes" } else { "no" };
     let mut row = format!(
-        "| {number} | {} | {} | {periods} | {} | {} | {} |",
+        "| {number} | {} | {} | {periods} | {repeats} | {} | {} | {} |",
         task.cores, task.slots, task.computing, task.requests, task.span
     );
     for made in longest {

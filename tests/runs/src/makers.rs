@@ -24,7 +24,7 @@ fn carried_out(task: &Task, mut wish: impl FnMut(&Left) -> Wish) -> Run {
         requests: task.requests,
     };
     let mut run = Run::new();
-    while left.period < task.total_periods() && left.computing + left.requests > 0 {
+    while left.period < task.most_periods() && left.computing + left.requests > 0 {
         let wished = wish(&left);
         let full = full_period(task, &left, wished);
         let made = full.unwrap_or_else(|| last_period(task, &left));
@@ -102,8 +102,8 @@ pub fn sparing(task: &Task) -> Run {
 }
 
 /// As much stall in all as can be: the answered placement, spread over the
-/// periods of each interval at the corners on both sides of its rate, the
-/// higher corner first.
+/// periods of each interval, in all cycles, at the corners on both sides of its
+/// rate, the higher corner first.
 pub fn spread(task: &Task) -> Run {
     let rates = spread_rates(task);
     carried_out(task, |left| {
@@ -114,20 +114,21 @@ pub fn spread(task: &Task) -> Run {
 
 /// The rate of each period up to the span.
 fn spread_rates(task: &Task) -> Vec<u64> {
-    let mut rates = Vec::new();
-    for (&length, &placed) in task.lengths.iter().zip(&task.placement) {
-        let first = rates.len();
-        let share = length.min(task.span - first) as u64;
-        if share == 0 {
-            break;
-        }
+    let mut rates = vec![0; task.span];
+    for (interval, &placed) in task.placement.iter().enumerate() {
+        let within = |&period: &usize| task.interval_of(period) == interval;
+        let share: Vec<usize> = (0..task.span).filter(within).collect();
+        let Some(&first) = share.first() else {
+            continue;
+        };
+        let periods = share.len() as u64;
         let corners = corners(task, first);
-        let pair = corners.windows(2).find(|pair| placed <= share * pair[1]);
+        let pair = corners.windows(2).find(|pair| placed <= periods * pair[1]);
         let (low, high) = pair.map_or((0, 0), |pair| (pair[0], pair[1]));
-        let mut left = placed - (share * low).min(placed);
-        for _ in 0..share {
+        let mut left = placed - (periods * low).min(placed);
+        for period in share {
             let more = left.min(high - low);
-            rates.push(low + more);
+            rates[period] = low + more;
             left -= more;
         }
     }

@@ -28,8 +28,8 @@ fn requests(run: &[Period]) -> u64 {
 
 /// The first rule of lawful runs that the run breaks.
 pub fn broken_rule(task: &Task, run: &Run) -> Option<&'static str> {
-    if run.len() > task.total_periods() {
-        return Some("past the plan's end");
+    if run.len() > task.most_periods() {
+        return Some("past the plan's end, or past 65,535 periods of a repeating one");
     }
     for (number, period) in run.iter().enumerate() {
         let last = number + 1 == run.len();

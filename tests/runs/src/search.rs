@@ -107,10 +107,10 @@ impl<'a> Search<'a> {
         Run::new()
     }
 
-    /// A last period with one slot of work, if the plan goes on and any work
+    /// A last period with one slot of work, if the run may go on and any work
     /// is left.
     fn one_more(&self, periods: usize, requests: usize) -> Option<Period> {
-        let ended = periods == self.task.total_periods();
+        let ended = periods == self.task.most_periods();
         let computing = u64::from(self.least[periods][requests] < self.task.computing);
         let wanted = u64::from(computing == 0 && (requests as u64) < self.task.requests);
         let worked = computing + wanted > 0;

@@ -2,22 +2,24 @@
 
 const SPAN: u8 = 4;
 
+/// The most periods that a run on a repeating plan may have.
+const MOST_PERIODS: usize = 65_535;
+
 /// A span question that was answered with a span.
 pub struct Task {
     pub cores: u8,
     pub slots: u64,
+    pub repeating: bool,
     pub computing: u64,
     pub requests: u64,
     /// The answered span, in periods.
     pub span: usize,
     /// The answered placement: the requests of each interval.
     pub placement: Vec<u64>,
-    /// The lengths of the intervals.
-    pub lengths: Vec<usize>,
     /// The raw stall in one period of each interval, at each whole rate of 0
     /// to the core's budget.
     raw: Vec<Vec<u64>>,
-    /// The interval of each period of the plan.
+    /// The interval of each period of the plan, or of one cycle.
     interval_of: Vec<usize>,
 }
 
@@ -49,35 +51,49 @@ impl Task {
         let cores = number(0, 1)? as usize;
         let own = number(1, 1)? as usize - 1;
         let slots = number(2, 4)?;
-        let intervals = number(17, 1)? as usize;
+        let intervals = number(18, 1)? as usize;
         let mut task = Task {
             cores: cores as u8,
             slots,
-            computing: number(6, 4)?,
-            requests: number(10, 4)?,
+            repeating: number(6, 1)? != 0,
+            computing: number(7, 4)?,
+            requests: number(11, 4)?,
             span,
             placement,
-            lengths: Vec::new(),
             raw: Vec::new(),
             interval_of: Vec::new(),
         };
         for interval in 0..intervals {
-            let length = number(18 + 2 * interval, 2)? as usize;
-            let first = 18 + 2 * intervals + 2 * interval * cores;
+            let length = number(19 + 2 * interval, 2)? as usize;
+            let first = 19 + 2 * intervals + 2 * interval * cores;
             let budgets = (0..cores).map(|core| number(first + 2 * core, 2));
             let budgets = budgets.collect::<Option<Vec<u64>>>()?;
             task.raw.push(raw_stalls(slots, &budgets, own));
-            task.lengths.push(length);
             task.interval_of.extend(vec![interval; length]);
         }
         Some(task)
     }
 
+    /// T; of a repeating plan, the length of one cycle.
     pub fn total_periods(&self) -> usize {
         self.interval_of.len()
     }
 
-    /// The core's budget in a period; the plan's first is period 0.
+    /// The most periods that a lawful run may have.
+    pub fn most_periods(&self) -> usize {
+        match self.repeating {
+            true => MOST_PERIODS,
+            false => self.total_periods(),
+        }
+    }
+
+    /// The interval in which a period lies; the plan's first is period 0. The
+    /// period after the last of a cycle is the first of the next.
+    pub fn interval_of(&self, period: usize) -> usize {
+        self.interval_of[period % self.interval_of.len()]
+    }
+
+    /// The core's budget in a period.
     pub fn budget(&self, period: usize) -> u64 {
         self.raw_stalls(period).len() as u64 - 1
     }
@@ -87,7 +103,7 @@ impl Task {
     }
 
     fn raw_stalls(&self, period: usize) -> &[u64] {
-        &self.raw[self.interval_of[period]]
+        &self.raw[self.interval_of(period)]
     }
 }
 

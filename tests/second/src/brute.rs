@@ -1,5 +1,6 @@
 //! Placement and span by a plain search over all placements. Nothing here uses
-//! the slope order, the bending rates or the sequence's claim to be the span.
+//! the slope order, the bending rates, a division of the span by the cycle or
+//! the sequence's claim to be the span.
 //! `None` stands for a plan with too many placements to search, or with a
 //! common divisor too large to keep.
 
@@ -46,20 +47,20 @@ impl Envelope {
         }
     }
 
-    /// The stall of `share` requests in `periods` periods, times `divisor`,
+    /// The stall of `placed` requests in `periods` periods, times `divisor`,
     /// which every segment's run divides.
-    fn stall(&self, periods: u64, share: u64, divisor: u128) -> u128 {
+    fn stall(&self, periods: u64, placed: u64, divisor: u128) -> u128 {
         if periods == 0 {
             return 0;
         }
         let covering = self.corners.windows(2).find(|pair| {
             let (from, to) = (pair[0].0, pair[1].0);
-            periods * from <= share && share <= periods * to
+            periods * from <= placed && placed <= periods * to
         });
-        let pair = covering.expect("a share of at most periods times budget");
+        let pair = covering.expect("at most periods times budget");
         let ((from, stall_from), (to, stall_to)) = (pair[0], pair[1]);
         let whole = u128::from(periods * stall_from) * divisor;
-        let part = u128::from((share - periods * from) * (stall_to - stall_from));
+        let part = u128::from((placed - periods * from) * (stall_to - stall_from));
         whole + part * (divisor / u128::from(to - from))
     }
 }
@@ -70,7 +71,7 @@ struct Best {
     total: u128,
     divisor: u128,
     placed: u64,
-    shares: Vec<u64>,
+    placement: Vec<u64>,
 }
 
 impl Best {
@@ -79,16 +80,40 @@ impl Best {
     }
 }
 
+/// The interval of each period of one cycle, in the order of time.
+pub struct Cycle(Vec<usize>);
+
+impl Cycle {
+    pub fn new(lengths: &[u16]) -> Self {
+        let mut interval_of = Vec::new();
+        for (interval, &length) in lengths.iter().enumerate() {
+            interval_of.extend(vec![interval; usize::from(length)]);
+        }
+        Cycle(interval_of)
+    }
+
+    /// The periods of each of so many intervals in a span, counted one by one
+    /// round the cycle.
+    pub fn shares(&self, intervals: usize, span: u64) -> Vec<u64> {
+        let mut shares = vec![0; intervals];
+        let round = self.0.iter().cycle();
+        for (_, &interval) in (0..span).zip(round) {
+            shares[interval] += 1;
+        }
+        shares
+    }
+}
+
 /// All that stays the same while the span changes.
-struct Search<'a> {
-    lengths: &'a [u16],
+struct Search {
+    cycle: Cycle,
     envelopes: Vec<Envelope>,
     requests: u64,
     divisor: u128,
 }
 
-impl<'a> Search<'a> {
-    fn new(seen: &CorePlan<'a>, requests: u32) -> Option<Self> {
+impl Search {
+    fn new(seen: &CorePlan, requests: u32) -> Option<Self> {
         let intervals = 0..seen.intervals();
         let envelopes: Vec<Envelope> = intervals
             .map(|interval| Envelope::new(seen, interval))
@@ -104,48 +129,38 @@ impl<'a> Search<'a> {
             }
         }
         Some(Search {
-            lengths: seen.plan.lengths,
+            cycle: Cycle::new(seen.plan.lengths),
             envelopes,
             requests: u64::from(requests),
             divisor,
         })
     }
 
-    /// 004, equation 1, as it stands.
-    fn periods(&self, span: u64) -> Vec<u64> {
-        let mut before = 0;
-        let mut periods = Vec::new();
-        for &length in self.lengths {
-            periods.push(u64::from(length).min(span.saturating_sub(before)));
-            before += u64::from(length);
-        }
-        periods
-    }
-
     /// The best of all placements at `span`.
     fn best(&self, span: u64) -> Option<Best> {
-        let periods = self.periods(span);
+        let shares = self.cycle.shares(self.envelopes.len(), span);
         let most: Vec<u64> = self
             .envelopes
             .iter()
-            .zip(&periods)
-            .map(|(envelope, periods)| (periods * envelope.budget).min(self.requests))
+            .zip(&shares)
+            .map(|(envelope, share)| (share * envelope.budget).min(self.requests))
             .collect();
         let mut placements = 1;
-        for &share in &most {
-            placements *= share + 1;
+        for &requests in &most {
+            placements *= requests + 1;
             if placements > MOST_PLACEMENTS {
                 return None;
             }
         }
-        let stalls = self.stalls(&periods, &most);
-        let mut shares = vec![0; most.len()];
-        let mut best = self.judged(&stalls, &shares)?;
-        while advance(&mut shares, &most) {
-            if let Some(other) = self.judged(&stalls, &shares) {
+        let stalls = self.stalls(&shares, &most);
+        let mut placement = vec![0; most.len()];
+        let mut best = self.judged(&stalls, &placement)?;
+        while advance(&mut placement, &most) {
+            if let Some(other) = self.judged(&stalls, &placement) {
                 let key = |kept: &Best| (kept.total, kept.placed);
                 let order = key(&other).cmp(&key(&best));
-                if order.then_with(|| other.shares.cmp(&best.shares)).is_gt() {
+                let order = order.then_with(|| other.placement.cmp(&best.placement));
+                if order.is_gt() {
                     best = other;
                 }
             }
@@ -153,31 +168,29 @@ impl<'a> Search<'a> {
         Some(best)
     }
 
-    /// For each interval the stall of each share, times the divisor.
-    fn stalls(&self, periods: &[u64], most: &[u64]) -> Vec<Vec<u128>> {
+    /// For each interval the stall of each number of requests placed there,
+    /// times the divisor.
+    fn stalls(&self, shares: &[u64], most: &[u64]) -> Vec<Vec<u128>> {
         let mut stalls = Vec::new();
         for (interval, envelope) in self.envelopes.iter().enumerate() {
-            let shares = 0..=most[interval];
-            let of_share = |share| envelope.stall(periods[interval], share, self.divisor);
-            stalls.push(shares.map(of_share).collect());
+            let stall = |placed| envelope.stall(shares[interval], placed, self.divisor);
+            stalls.push((0..=most[interval]).map(stall).collect());
         }
         stalls
     }
 
     /// One placement with its total, if it places no more than the requests.
-    fn judged(&self, stalls: &[Vec<u128>], shares: &[u64]) -> Option<Best> {
-        let placed: u64 = shares.iter().sum();
+    fn judged(&self, stalls: &[Vec<u128>], placement: &[u64]) -> Option<Best> {
+        let placed: u64 = placement.iter().sum();
         if placed > self.requests {
             return None;
         }
-        let each = stalls.iter().zip(shares);
+        let each = stalls.iter().zip(placement);
         Some(Best {
-            total: each
-                .map(|(of_share, &share)| of_share[share as usize])
-                .sum(),
+            total: each.map(|(stall, &placed)| stall[placed as usize]).sum(),
             divisor: self.divisor,
             placed,
-            shares: shares.to_vec(),
+            placement: placement.to_vec(),
         })
     }
 }
@@ -190,21 +203,21 @@ fn greatest_common_divisor(one: u128, other: u128) -> u128 {
     }
 }
 
-/// The next list of shares with each at most its `most`, if there is one.
-fn advance(shares: &mut [u64], most: &[u64]) -> bool {
-    for (share, &most) in shares.iter_mut().zip(most).rev() {
-        if *share < most {
-            *share += 1;
+/// The next placement with each number at most its `most`, if there is one.
+fn advance(placement: &mut [u64], most: &[u64]) -> bool {
+    for (placed, &most) in placement.iter_mut().zip(most).rev() {
+        if *placed < most {
+            *placed += 1;
             return true;
         }
-        *share = 0;
+        *placed = 0;
     }
     false
 }
 
-fn write_shares(best: &Best, place: &mut [u32]) {
-    for (written, &share) in place.iter_mut().zip(&best.shares) {
-        *written = share as u32;
+fn write_placement(best: &Best, place: &mut [u32]) {
+    for (written, &placed) in place.iter_mut().zip(&best.placement) {
+        *written = placed as u32;
     }
 }
 
@@ -218,7 +231,7 @@ pub fn placement(
         Err(refusal) => return Some(Err(refusal)),
     };
     let best = Search::new(&seen, question.requests)?.best(u64::from(question.span))?;
-    write_shares(&best, place);
+    write_placement(&best, place);
     Some(Ok(best.rounded_up()))
 }
 
@@ -235,7 +248,7 @@ pub fn span(question: &span::Question, place: &mut [u32]) -> Option<Result<span:
         let Some(spare) = spare else { continue };
         let best = search.best(periods)?;
         if best.total <= u128::from(spare) * best.divisor {
-            write_shares(&best, place);
+            write_placement(&best, place);
             return Some(Ok(span::Answer {
                 span: periods as u32,
                 stall: best.rounded_up(),

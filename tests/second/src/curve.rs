@@ -1,6 +1,6 @@
 //! Stall: the corners of the envelope, and the two one-interval questions.
 
-use crate::plan::{demand, CorePlan, GivenPlan, Refusal};
+use crate::plan::{demand, CorePlan, GivenPlan, Head, Refusal};
 
 /// A corner of an envelope: a whole rate and the raw stall there.
 #[derive(Clone, Copy, PartialEq, Eq, Debug)]
@@ -54,31 +54,23 @@ pub fn corners(seen: &CorePlan, interval: usize) -> Vec<Corner> {
     kept
 }
 
-/// The question "raw stall at `rate`", for one interval of one period.
-pub fn raw_question(
-    cores: u8,
-    slots_per_period: u32,
-    budgets: &[u16],
-    core: u8,
-    rate: u32,
-) -> Result<u32, Refusal> {
-    let plan = one_interval(cores, slots_per_period, budgets);
-    let seen = plan.judge()?.seen_from(core)?;
+/// The question "raw stall at `rate`", for one interval of one period. The
+/// mark comes with the head and makes no difference.
+pub fn raw_question(head: Head, budgets: &[u16], core: u8, rate: u32) -> Result<u32, Refusal> {
+    let seen = one_interval(head, budgets).judge()?.seen_from(core)?;
     demand(rate <= seen.own_budget(0), Refusal::RateAboveBudget)?;
     Ok(seen.raw_stall(0, rate))
 }
 
 /// The question "corners for one interval": writes their rates into the lent
-/// place and gives their count.
+/// place and gives their count. The mark makes no difference.
 pub fn corners_question(
-    cores: u8,
-    slots_per_period: u32,
+    head: Head,
     budgets: &[u16],
     core: u8,
     place: &mut [u32],
 ) -> Result<usize, Refusal> {
-    let plan = one_interval(cores, slots_per_period, budgets);
-    let seen = plan.judge()?.seen_from(core)?;
+    let seen = one_interval(head, budgets).judge()?.seen_from(core)?;
     let found = corners(&seen, 0);
     demand(place.len() >= found.len(), Refusal::NoRoom)?;
     for (written, corner) in place.iter_mut().zip(&found) {
@@ -87,10 +79,9 @@ pub fn corners_question(
     Ok(found.len())
 }
 
-fn one_interval(cores: u8, slots_per_period: u32, budgets: &[u16]) -> GivenPlan<'_> {
+fn one_interval(head: Head, budgets: &[u16]) -> GivenPlan<'_> {
     GivenPlan {
-        cores,
-        slots_per_period,
+        head,
         lengths: &[1],
         budgets,
     }

@@ -31,8 +31,8 @@ fn answers(file: &PlanFile) -> String {
     let total_periods: u32 = file.lengths.iter().map(|&length| u32::from(length)).sum();
     let mut lines = format!(
         "plan {} {} {} {total_periods}\n",
-        file.cores,
-        file.slots_per_period,
+        file.head.cores,
+        file.head.slots_per_period,
         file.lengths.len()
     );
     let workloads = file.workload_cores.len();
@@ -51,15 +51,15 @@ fn answer(file: &PlanFile, workload: usize) -> String {
         requests: file.requests[workload],
         horizon: file.horizons[workload],
     };
-    let mut shares = vec![0; file.lengths.len()];
-    match question.answer(&mut shares) {
+    let mut placement = vec![0; file.lengths.len()];
+    match question.answer(&mut placement) {
         Ok(found) => {
             let mut line = format!(
                 "span {} stall {} rounds {} requests",
                 found.span, found.stall, found.rounds
             );
-            for share in shares {
-                line += &format!(" {share}");
+            for requests in placement {
+                line += &format!(" {requests}");
             }
             line
         }

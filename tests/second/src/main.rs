@@ -1,5 +1,5 @@
-//! The independent second program: the questions of 01-scope.md, answered
-//! from that document alone.
+//! The independent second program: the questions of document 01 with the
+//! requests of document 02 that have landed, answered from these pages alone.
 
 mod brute;
 mod curve;

@@ -16,9 +16,11 @@ struct Segment {
 /// the earlier interval's comes first.
 pub struct Steepest<'a> {
     lengths: &'a [u16],
+    /// T, the length of one cycle.
+    cycle: u32,
     segments: Vec<Segment>,
-    /// Periods of each interval at the span last filled.
-    periods: Vec<u64>,
+    /// The share of each interval, in periods, at the span last filled.
+    shares: Vec<u64>,
 }
 
 impl<'a> Steepest<'a> {
@@ -37,35 +39,42 @@ impl<'a> Steepest<'a> {
         segments.sort_by(|one, other| (other.rise * one.run).cmp(&(one.rise * other.run)));
         Steepest {
             lengths: seen.plan.lengths,
+            cycle: seen.plan.total_periods,
             segments,
-            periods: vec![0; seen.intervals()],
+            shares: vec![0; seen.intervals()],
         }
     }
 
-    /// Sets the periods of each interval at a span (004, equation 1).
-    fn divide(&mut self, span: u32) {
-        let mut left = u64::from(span);
-        for (periods, &length) in self.periods.iter_mut().zip(self.lengths) {
-            *periods = left.min(u64::from(length));
-            left -= *periods;
+    /// Sets the share of each interval at a span and gives all of them: its
+    /// length once for each full cycle, and its part of the last one (004,
+    /// equation 1). A span of at most T has at most one cycle, so a plain
+    /// plan's shares are found by the same rule.
+    pub fn divide(&mut self, span: u32) -> &[u64] {
+        let full_cycles = u64::from(span / self.cycle);
+        let mut left = u64::from(span % self.cycle);
+        for (share, &length) in self.shares.iter_mut().zip(self.lengths) {
+            let part = left.min(u64::from(length));
+            *share = full_cycles * u64::from(length) + part;
+            left -= part;
         }
+        &self.shares
     }
 
     /// Places as many of the requests as fit, steepest segments first, and
     /// gives the total stall rounded up. Within one interval the slopes fall,
     /// so its segments are filled in their own order; only the last segment
     /// filled can be filled in part, so there is one fraction at most.
-    pub fn fill(&mut self, span: u32, requests: u32, shares: &mut [u32]) -> u64 {
+    pub fn fill(&mut self, span: u32, requests: u32, placement: &mut [u32]) -> u64 {
         self.divide(span);
-        shares.fill(0);
+        placement.fill(0);
         let mut left = u64::from(requests);
         let mut stall = 0;
         for segment in &self.segments {
-            let periods = self.periods[segment.interval];
-            let share = left.min(periods * segment.run);
-            stall += (share * segment.rise).div_ceil(segment.run);
-            shares[segment.interval] += share as u32;
-            left -= share;
+            let periods = self.shares[segment.interval];
+            let placed = left.min(periods * segment.run);
+            stall += (placed * segment.rise).div_ceil(segment.run);
+            placement[segment.interval] += placed as u32;
+            left -= placed;
             if left == 0 {
                 break;
             }
@@ -87,8 +96,7 @@ impl<'a> Question<'a> {
     pub fn judge(&self, room: usize) -> Result<CorePlan<'a>, Refusal> {
         let seen = self.plan.judge()?.seen_from(self.core)?;
         demand(self.requests <= MOST_OF_A_WORKLOAD, Refusal::Requests)?;
-        let spans = 1..=seen.plan.total_periods;
-        demand(spans.contains(&u32::from(self.span)), Refusal::Horizon)?;
+        seen.plan.judge_periods(self.span)?;
         demand(room >= seen.intervals(), Refusal::NoRoom)?;
         Ok(seen)
     }
@@ -96,8 +104,8 @@ impl<'a> Question<'a> {
     /// Writes the placement into the lent place and gives the stall.
     pub fn answer(&self, place: &mut [u32]) -> Result<u64, Refusal> {
         let seen = self.judge(place.len())?;
-        let shares = &mut place[..seen.intervals()];
-        let stall = Steepest::new(&seen).fill(u32::from(self.span), self.requests, shares);
+        let placement = &mut place[..seen.intervals()];
+        let stall = Steepest::new(&seen).fill(u32::from(self.span), self.requests, placement);
         Ok(stall)
     }
 }

@@ -1,4 +1,6 @@
 //! Units and bounds: a plan of budgets, and the refusals 1 to 7 judged on it.
+//! A plan may be marked as repeating (request 2026-01): it then starts over
+//! each time its last period has ended.
 
 pub const MOST_CORES: u8 = 8;
 pub const MOST_SLOTS_PER_PERIOD: u32 = 65_535;
@@ -75,11 +77,19 @@ pub fn judge_interval(
     Ok(total)
 }
 
+/// What is stated of a plan before its intervals, not judged yet.
+#[derive(Clone, Copy, Default)]
+pub struct Head {
+    pub cores: u8,
+    pub slots_per_period: u32,
+    /// The mark: a plan that starts over, not a plain one.
+    pub repeating: bool,
+}
+
 /// A plan as it is given, not judged yet.
 #[derive(Clone, Copy)]
 pub struct GivenPlan<'a> {
-    pub cores: u8,
-    pub slots_per_period: u32,
+    pub head: Head,
     pub lengths: &'a [u16],
     pub budgets: &'a [u16],
 }
@@ -87,19 +97,21 @@ pub struct GivenPlan<'a> {
 impl<'a> GivenPlan<'a> {
     /// Judges 1, 2, 3, then interval by interval 4 before 5.
     pub fn judge(self) -> Result<Plan<'a>, Refusal> {
-        judge_cores(self.cores)?;
-        judge_slots_per_period(self.slots_per_period)?;
+        let slots_per_period = self.head.slots_per_period;
+        judge_cores(self.head.cores)?;
+        judge_slots_per_period(slots_per_period)?;
         judge_intervals(self.lengths.len())?;
-        let cores = usize::from(self.cores);
+        let cores = usize::from(self.head.cores);
         let wanted = self.lengths.len() * cores;
         demand(self.budgets.len() == wanted, Refusal::Intervals)?;
         let mut total_periods = 0;
         for (&length, budgets) in self.lengths.iter().zip(self.budgets.chunks(cores)) {
-            total_periods = judge_interval(total_periods, length, budgets, self.slots_per_period)?;
+            total_periods = judge_interval(total_periods, length, budgets, slots_per_period)?;
         }
         Ok(Plan {
             cores,
-            slots_per_period: self.slots_per_period,
+            slots_per_period,
+            repeating: self.head.repeating,
             lengths: self.lengths,
             budgets: self.budgets,
             total_periods,
@@ -112,12 +124,25 @@ impl<'a> GivenPlan<'a> {
 pub struct Plan<'a> {
     pub cores: usize,
     pub slots_per_period: u32,
+    pub repeating: bool,
     pub lengths: &'a [u16],
     pub budgets: &'a [u16],
+    /// T: of a repeating plan, the length of one cycle.
     pub total_periods: u32,
 }
 
 impl<'a> Plan<'a> {
+    /// Judges 10 for a horizon or a given span: 1 to T for a plain plan, 1 to
+    /// 65,535 for a repeating one, whatever its T is.
+    pub fn judge_periods(&self, periods: u16) -> Result<(), Refusal> {
+        let most = if self.repeating {
+            MOST_PERIODS
+        } else {
+            self.total_periods
+        };
+        demand((1..=most).contains(&u32::from(periods)), Refusal::Horizon)
+    }
+
     /// The budgets of one interval, core 1 first.
     pub fn interval_budgets(&self, interval: usize) -> &'a [u16] {
         &self.budgets[interval * self.cores..(interval + 1) * self.cores]

@@ -1,7 +1,7 @@
 //! Plan file: the reader and the writer.
 
 use crate::plan::{
-    demand, judge_cores, judge_interval, judge_intervals, judge_slots_per_period, GivenPlan,
+    demand, judge_cores, judge_interval, judge_intervals, judge_slots_per_period, GivenPlan, Head,
     Refusal,
 };
 
@@ -14,8 +14,8 @@ const WORKLOAD: u16 = 3;
 /// A plan with the four lists of its workloads.
 #[derive(Default)]
 pub struct PlanFile {
-    pub cores: u8,
-    pub slots_per_period: u32,
+    /// Plain, if it was read: a file has no place for the mark.
+    pub head: Head,
     pub lengths: Vec<u16>,
     pub budgets: Vec<u16>,
     pub workload_cores: Vec<u8>,
@@ -27,8 +27,7 @@ pub struct PlanFile {
 impl PlanFile {
     pub fn plan(&self) -> GivenPlan<'_> {
         GivenPlan {
-            cores: self.cores,
-            slots_per_period: self.slots_per_period,
+            head: self.head,
             lengths: &self.lengths,
             budgets: &self.budgets,
         }
@@ -123,14 +122,17 @@ impl Reader {
         judge_cores(body[0])?;
         judge_slots_per_period(slots_per_period)?;
         judge_intervals(intervals)?;
-        self.file.cores = body[0];
-        self.file.slots_per_period = slots_per_period;
+        self.file.head = Head {
+            cores: body[0],
+            slots_per_period,
+            repeating: false,
+        };
         self.intervals = intervals;
         Ok(())
     }
 
     fn interval(&mut self, body: &[u8]) -> Result<(), Refusal> {
-        let cores = usize::from(self.file.cores);
+        let cores = usize::from(self.file.head.cores);
         let mask = body[0];
         demand(u32::from(mask) >> cores == 0, Refusal::NotZero)?;
         let listed = mask.count_ones() as usize;
@@ -145,7 +147,7 @@ impl Reader {
                 at += 2;
             }
         }
-        let slots_per_period = self.file.slots_per_period;
+        let slots_per_period = self.file.head.slots_per_period;
         self.total_periods =
             judge_interval(self.total_periods, length, &budgets, slots_per_period)?;
         self.file.lengths.push(length);
@@ -161,9 +163,11 @@ impl Reader {
     }
 }
 
-/// Judges 1 to 5, then 25, and gives the bytes of the file.
+/// Judges 1 to 5, then 23 for a repeating plan (the head's zero byte would not
+/// be zero), then 25, and gives the bytes of the file.
 pub fn write(file: &PlanFile) -> Result<Vec<u8>, Refusal> {
     let plan = file.plan().judge()?;
+    demand(!plan.repeating, Refusal::NotZero)?;
     let workloads = file.workload_cores.len();
     let counts = [
         file.computing.len(),
@@ -175,8 +179,8 @@ pub fn write(file: &PlanFile) -> Result<Vec<u8>, Refusal> {
         Refusal::Workloads,
     )?;
     let mut bytes = Vec::new();
-    let mut head = vec![file.cores, 0];
-    head.extend((file.slots_per_period as u16).to_le_bytes());
+    let mut head = vec![file.head.cores, 0];
+    head.extend((file.head.slots_per_period as u16).to_le_bytes());
     head.extend((file.lengths.len() as u16).to_le_bytes());
     write_record(&mut bytes, HEAD, &head);
     for (interval, &length) in file.lengths.iter().enumerate() {

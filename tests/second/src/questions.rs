@@ -1,4 +1,21 @@
-//! The question stream: records in, one line of text out for each.
+//! The question stream: records in, one line of text out for each. A record is
+//! its kind (one byte), the length of its body (two) and the body; numbers are
+//! little-endian, their bytes are counted here, and the lists fill the rest:
+//!
+//! 1. raw: cores 1, core 1, Q 4, mark 1, rate 4, budgets 2 each.
+//! 2. corners: cores 1, core 1, Q 4, mark 1, room 1, budgets 2 each.
+//! 3. placement: cores 1, core 1, Q 4, mark 1, requests 4, W 2, room 1,
+//!    intervals 1, lengths 2 each, budgets 2 each.
+//! 4. span: cores 1, core 1, Q 4, mark 1, computing 4, requests 4, horizon 2,
+//!    room 1, intervals 1, lengths 2 each, budgets 2 each.
+//! 5. read: the rooms of six places 2 each, the file.
+//! 6. write: cores 1, Q 4, mark 1, room 2, intervals 1, the counts of budgets
+//!    and of the four lists 2 each, lengths 2 each, budgets 2 each, cores 1
+//!    each, computing 4 each, requests 4 each, horizons 2 each.
+//!
+//! A line is the kind's word, the refusal or 0, the results, and after ` :` the
+//! whole of each lent place. The results of `read` are the offset, cores, Q,
+//! mark, intervals and workloads.
 
 use std::fmt::{Display, Write as _};
 use std::io::{self, BufReader, BufWriter, ErrorKind, Read, Write};
@@ -6,7 +23,7 @@ use std::io::{self, BufReader, BufWriter, ErrorKind, Read, Write};
 use crate::brute;
 use crate::curve;
 use crate::placement;
-use crate::plan::{demand, GivenPlan, Refusal};
+use crate::plan::{demand, GivenPlan, Head, Refusal};
 use crate::planfile::{self, four_bytes, two_bytes, PlanFile, RefusedFile};
 use crate::span;
 
@@ -101,6 +118,24 @@ impl<'a> Body<'a> {
         (0..count).map(|_| self.four()).collect()
     }
 
+    /// Q and the mark, which follow the cores: 0 is a plain plan, all else a
+    /// repeating one.
+    fn rest_of_head(&mut self, cores: u8) -> Option<Head> {
+        Some(Head {
+            cores,
+            slots_per_period: self.four()?,
+            repeating: self.one()? != 0,
+        })
+    }
+
+    /// The head of a plan with the core under analysis, which stands after
+    /// the cores.
+    fn head_and_core(&mut self) -> Option<(Head, u8)> {
+        let cores = self.one()?;
+        let core = self.one()?;
+        Some((self.rest_of_head(cores)?, core))
+    }
+
     /// All that is left, in numbers of two bytes.
     fn rest_of_two(&mut self) -> Option<Vec<u16>> {
         let count = self.0.len() / 2;
@@ -132,31 +167,25 @@ fn lent<Number: From<u8> + Clone>(room: usize) -> Vec<Number> {
 }
 
 fn raw_line(body: &mut Body) -> Option<String> {
-    let cores = body.one()?;
-    let core = body.one()?;
-    let slots_per_period = body.four()?;
+    let (head, core) = body.head_and_core()?;
     let rate = body.four()?;
     let budgets = body.rest_of_two()?;
-    let answer = curve::raw_question(cores, slots_per_period, &budgets, core, rate);
+    let answer = curve::raw_question(head, &budgets, core, rate);
     Some(start("raw", answer.map(|stall| [u64::from(stall)])))
 }
 
 fn corners_line(body: &mut Body) -> Option<String> {
-    let cores = body.one()?;
-    let core = body.one()?;
-    let slots_per_period = body.four()?;
+    let (head, core) = body.head_and_core()?;
     let mut place = lent(usize::from(body.one()?));
     let budgets = body.rest_of_two()?;
-    let answer = curve::corners_question(cores, slots_per_period, &budgets, core, &mut place);
+    let answer = curve::corners_question(head, &budgets, core, &mut place);
     let mut line = start("corners", answer.map(|count| [count as u64]));
     add_place(&mut line, &place);
     Some(line)
 }
 
 fn placement_line(method: Method, body: &mut Body) -> Option<String> {
-    let cores = body.one()?;
-    let core = body.one()?;
-    let slots_per_period = body.four()?;
+    let (head, core) = body.head_and_core()?;
     let requests = body.four()?;
     let span = body.two()?;
     let mut place = lent(usize::from(body.one()?));
@@ -164,8 +193,7 @@ fn placement_line(method: Method, body: &mut Body) -> Option<String> {
     let lengths = body.list_of_two(intervals)?;
     let budgets = body.rest_of_two()?;
     let plan = GivenPlan {
-        cores,
-        slots_per_period,
+        head,
         lengths: &lengths,
         budgets: &budgets,
     };
@@ -188,9 +216,7 @@ fn placement_line(method: Method, body: &mut Body) -> Option<String> {
 }
 
 fn span_line(method: Method, body: &mut Body) -> Option<String> {
-    let cores = body.one()?;
-    let core = body.one()?;
-    let slots_per_period = body.four()?;
+    let (head, core) = body.head_and_core()?;
     let computing = body.four()?;
     let requests = body.four()?;
     let horizon = body.two()?;
@@ -200,8 +226,7 @@ fn span_line(method: Method, body: &mut Body) -> Option<String> {
     let budgets = body.rest_of_two()?;
     let question = span::Question {
         plan: GivenPlan {
-            cores,
-            slots_per_period,
+            head,
             lengths: &lengths,
             budgets: &budgets,
         },
@@ -295,14 +320,15 @@ fn read_line(body: &mut Body) -> Option<String> {
     let mut places = Places::take(body)?;
     let mut line = match read_into(&mut places, body.0) {
         Ok(file) => format!(
-            "read 0 0 {} {} {} {}",
-            file.cores,
-            file.slots_per_period,
+            "read 0 0 {} {} {} {} {}",
+            file.head.cores,
+            file.head.slots_per_period,
+            u8::from(file.head.repeating),
             file.lengths.len(),
             file.workload_cores.len()
         ),
         Err(RefusedFile { refusal, offset }) => {
-            format!("read {} {offset} 0 0 0 0", refusal.number())
+            format!("read {} {offset} 0 0 0 0 0", refusal.number())
         }
     };
     places.add(&mut line);
@@ -311,14 +337,13 @@ fn read_line(body: &mut Body) -> Option<String> {
 
 fn write_line(body: &mut Body) -> Option<String> {
     let cores = body.one()?;
-    let slots_per_period = body.four()?;
+    let head = body.rest_of_head(cores)?;
     let mut place: Vec<u8> = lent(usize::from(body.two()?));
     let intervals = usize::from(body.one()?);
     let counts = body.list_of_two(5)?;
     let counts: Vec<usize> = counts.into_iter().map(usize::from).collect();
     let file = PlanFile {
-        cores,
-        slots_per_period,
+        head,
         lengths: body.list_of_two(intervals)?,
         budgets: body.list_of_two(counts[0])?,
         workload_cores: body.take(counts[1])?.to_vec(),

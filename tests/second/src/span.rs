@@ -27,11 +27,7 @@ impl<'a> Question<'a> {
         let computing = 1..=MOST_OF_A_WORKLOAD;
         demand(computing.contains(&self.computing), Refusal::Computing)?;
         demand(self.requests <= MOST_OF_A_WORKLOAD, Refusal::Requests)?;
-        let horizons = 1..=seen.plan.total_periods;
-        demand(
-            horizons.contains(&u32::from(self.horizon)),
-            Refusal::Horizon,
-        )?;
+        seen.plan.judge_periods(self.horizon)?;
         demand(room >= seen.intervals(), Refusal::NoRoom)?;
         Ok(seen)
     }
@@ -44,22 +40,22 @@ impl<'a> Question<'a> {
     /// Writes the placement into the lent place and gives the other results.
     pub fn answer(&self, place: &mut [u32]) -> Result<Answer, Refusal> {
         let seen = self.judge(place.len())?;
-        let mut shares = vec![0; seen.intervals()];
-        let answer = self.search(&seen, &mut shares)?;
-        place[..shares.len()].copy_from_slice(&shares);
+        let mut placement = vec![0; seen.intervals()];
+        let answer = self.search(&seen, &mut placement)?;
+        place[..placement.len()].copy_from_slice(&placement);
         Ok(answer)
     }
 
     /// Rounding the stall up to whole slots first leaves the next term the
     /// same, since all else in it is whole.
-    fn search(&self, seen: &CorePlan, shares: &mut [u32]) -> Result<Answer, Refusal> {
+    fn search(&self, seen: &CorePlan, placement: &mut [u32]) -> Result<Answer, Refusal> {
         let mut steepest = Steepest::new(seen);
         let slots_per_period = u64::from(seen.plan.slots_per_period);
         let mut term = self.unstalled().div_ceil(slots_per_period);
         let mut rounds = 0;
         while term <= u64::from(self.horizon) {
             let span = term as u32;
-            let stall = steepest.fill(span, self.requests, shares);
+            let stall = steepest.fill(span, self.requests, placement);
             term = (self.unstalled() + stall).div_ceil(slots_per_period);
             rounds += 1;
             if term == u64::from(span) {

@@ -1,24 +1,36 @@
-//! The numbers 01 works by hand, the listing, and what follows from them.
+//! The numbers 01 works by hand, the listing, and what follows from them; then
+//! the numbers worked for plans that repeat (request 2026-01).
 
+use crate::brute::Cycle;
 use crate::curve::{corners, corners_question, raw_question, Corner};
 use crate::listing::listing;
-use crate::placement;
-use crate::plan::{GivenPlan, Refusal};
+use crate::placement::{self, Steepest};
+use crate::plan::{GivenPlan, Head, Refusal};
 use crate::planfile::{self, PlanFile};
+use crate::questions::{line, Method};
 use crate::span::{self, Answer};
 
 const BUDGETS: [u16; 4] = [2, 2, 5, 7];
+const PLAIN: Head = Head {
+    cores: 4,
+    slots_per_period: 16,
+    repeating: false,
+};
+const REPEATING: Head = Head {
+    repeating: true,
+    ..PLAIN
+};
 
 fn raw_curve(core: u8) -> Vec<u32> {
     let budget = u32::from(BUDGETS[usize::from(core) - 1]);
     (0..=budget)
-        .map(|rate| raw_question(4, 16, &BUDGETS, core, rate).unwrap())
+        .map(|rate| raw_question(PLAIN, &BUDGETS, core, rate).unwrap())
         .collect()
 }
 
 fn corner_rates(core: u8) -> Vec<u32> {
     let mut place = [7; 9];
-    let count = corners_question(4, 16, &BUDGETS, core, &mut place).unwrap();
+    let count = corners_question(PLAIN, &BUDGETS, core, &mut place).unwrap();
     assert!(place[count..].iter().all(|&number| number == 7));
     place[..count].to_vec()
 }
@@ -37,8 +49,7 @@ fn curves_p1_to_p3() {
 fn asked(core: u8, computing: u32, requests: u32, horizon: u16) -> Result<Answer, Refusal> {
     let question = span::Question {
         plan: GivenPlan {
-            cores: 4,
-            slots_per_period: 16,
+            head: PLAIN,
             lengths: &[20],
             budgets: &BUDGETS,
         },
@@ -79,8 +90,7 @@ fn spans_p4_to_p8() {
 fn span_p9() {
     let question = span::Question {
         plan: GivenPlan {
-            cores: 1,
-            slots_per_period: 16,
+            head: Head { cores: 1, ..PLAIN },
             lengths: &[20],
             budgets: &[16],
         },
@@ -115,7 +125,7 @@ fn listing_p10() {
 
 #[test]
 fn refused_budgets() {
-    let raw = |budgets: &[u16], core| raw_question(4, 16, budgets, core, 0);
+    let raw = |budgets: &[u16], core| raw_question(PLAIN, budgets, core, 0);
     assert_eq!(raw(&[2, 2, 5, 6], 1), Err(Refusal::BudgetSum));
     assert_eq!(raw(&[0, 4, 6, 6], 1), Err(Refusal::NoBudget));
     assert_eq!(raw(&[0, 4, 6, 6], 2), Ok(0));
@@ -125,8 +135,7 @@ fn refused_budgets() {
 fn example_of_004_section_6() {
     let question = placement::Question {
         plan: GivenPlan {
-            cores: 4,
-            slots_per_period: 16,
+            head: PLAIN,
             lengths: &[5, 3, 7],
             budgets: &[2, 2, 5, 7, 2, 3, 7, 4, 5, 5, 1, 5],
         },
@@ -142,8 +151,11 @@ fn example_of_004_section_6() {
 /// 01's own description of the corners, for the first of three cores.
 fn check_corners(budgets: [u16; 3]) {
     let given = GivenPlan {
-        cores: 3,
-        slots_per_period: budgets.iter().map(|&budget| u32::from(budget)).sum(),
+        head: Head {
+            cores: 3,
+            slots_per_period: budgets.iter().map(|&budget| u32::from(budget)).sum(),
+            repeating: false,
+        },
         lengths: &[1],
         budgets: &budgets,
     };
@@ -180,8 +192,7 @@ fn corners_of_all_small_budgets() {
 #[test]
 fn longest_file() {
     let mut file = PlanFile {
-        cores: 8,
-        slots_per_period: 16,
+        head: Head { cores: 8, ..PLAIN },
         lengths: vec![1; 64],
         budgets: vec![2; 64 * 8],
         workload_cores: vec![1; 256],
@@ -199,4 +210,160 @@ fn longest_file() {
     assert_eq!(listing(&longer), "file refused 20 at 5642\n");
     file.horizons.push(1);
     assert_eq!(planfile::write(&file).err(), Some(Refusal::Workloads));
+}
+
+/// The mark of a plan in a question.
+const MARK: u8 = 1;
+
+/// The listing's plan: 1 period of 2 2 5 7, then 4 periods of 4 4 4 4.
+const LISTED_LENGTHS: [u16; 2] = [1, 4];
+const LISTED_BUDGETS: [u16; 8] = [2, 2, 5, 7, 4, 4, 4, 4];
+
+fn in_bytes(numbers: &[u16]) -> Vec<u8> {
+    let bytes = numbers.iter().flat_map(|number| number.to_le_bytes());
+    bytes.collect()
+}
+
+/// The line that both ways to it give for one record.
+fn both_ways(kind: u8, body: &[u8]) -> String {
+    let by_slope = line(Method::BySlope, kind, body);
+    assert_eq!(line(Method::BySearch, kind, body), by_slope);
+    by_slope
+}
+
+/// The answer on core 3 of a plan of 4 cores and Q = 16 to a span question, if
+/// computing is given, or to a placement question.
+fn answered(
+    mark: u8,
+    (lengths, budgets): (&[u16], &[u16]),
+    computing: Option<u32>,
+    requests: u32,
+    periods: u16,
+) -> String {
+    let mut body = vec![4, 3, 16, 0, 0, 0, mark];
+    body.extend(computing.into_iter().flat_map(u32::to_le_bytes));
+    body.extend(requests.to_le_bytes());
+    body.extend(periods.to_le_bytes());
+    body.extend([lengths.len() as u8; 2]);
+    body.extend(in_bytes(lengths));
+    body.extend(in_bytes(budgets));
+    both_ways(if computing.is_some() { 4 } else { 3 }, &body)
+}
+
+/// Span, stall, rounds and placement on the listing's plan.
+fn listed_span(mark: u8, computing: u32, requests: u32, horizon: u16) -> String {
+    let plan = (&LISTED_LENGTHS[..], &LISTED_BUDGETS[..]);
+    answered(mark, plan, Some(computing), requests, horizon)
+}
+
+#[test]
+fn repeating_spans() {
+    for mark in [0, MARK, 255] {
+        assert_eq!(listed_span(mark, 10, 10, 5), "span 0 4 30 3 : 2 8");
+        assert_eq!(listed_span(mark, 10, 10, 3), "span 12 0 0 0 : 7 7");
+        assert_eq!(listed_span(mark, 10, 10, 0), "span 10 0 0 0 : 7 7");
+    }
+    for horizon in [12, 13, 65_535] {
+        let line = listed_span(MARK, 40, 35, horizon);
+        assert_eq!(line, "span 0 12 105 4 : 6 29");
+    }
+    assert_eq!(listed_span(MARK, 40, 35, 11), "span 12 0 0 0 : 7 7");
+    for horizon in [6, 11, 65_535] {
+        assert_eq!(listed_span(0, 40, 35, horizon), "span 10 0 0 0 : 7 7");
+    }
+    let line = listed_span(MARK, 100, 100, 65_535);
+    assert_eq!(line, "span 0 32 300 4 : 14 86");
+}
+
+#[test]
+fn repeating_placements() {
+    let placed = |mark, requests, span| {
+        let plan = (&LISTED_LENGTHS[..], &LISTED_BUDGETS[..]);
+        answered(mark, plan, None, requests, span)
+    };
+    assert_eq!(placed(MARK, 25, 12), "placement 0 75 : 6 19");
+    assert_eq!(placed(MARK, 25, 65_535), "placement 0 75 : 25 0");
+    assert_eq!(placed(MARK, 25, 0), "placement 10 0 : 7 7");
+    assert_eq!(placed(0, 25, 6), "placement 10 0 : 7 7");
+    for span in 1..=5 {
+        assert_eq!(placed(MARK, 25, span), placed(0, 25, span));
+    }
+}
+
+#[test]
+fn repeating_shares() {
+    let given = GivenPlan {
+        head: REPEATING,
+        lengths: &LISTED_LENGTHS,
+        budgets: &LISTED_BUDGETS,
+    };
+    let seen = given.judge().ok().unwrap().seen_from(3).ok().unwrap();
+    let mut steepest = Steepest::new(&seen);
+    let cycle = Cycle::new(&LISTED_LENGTHS);
+    for (span, shares) in [(10, [2, 8]), (11, [3, 8]), (12, [3, 9])] {
+        assert_eq!(steepest.divide(span), shares);
+        assert_eq!(cycle.shares(2, u64::from(span)), shares);
+    }
+    for span in (1..=2_000).chain(65_500..=65_535) {
+        assert_eq!(steepest.divide(span), cycle.shares(2, u64::from(span)));
+    }
+}
+
+/// P4 and P5 again, on a cycle of one period.
+#[test]
+fn repeating_period() {
+    let asked = |horizon| answered(MARK, (&[1], &BUDGETS), Some(40), 35, horizon);
+    assert_eq!(asked(20), "span 0 10 85 3 : 35");
+    assert_eq!(asked(10), "span 0 10 85 3 : 35");
+    assert_eq!(asked(9), "span 12 0 0 0 : 7");
+}
+
+#[test]
+fn one_interval_questions_do_not_read_the_mark() {
+    for mark in [0, MARK] {
+        let mut raw = vec![4, 3, 16, 0, 0, 0, mark, 4, 0, 0, 0];
+        raw.extend(in_bytes(&BUDGETS));
+        assert_eq!(both_ways(1, &raw), "raw 0 8");
+        let mut corners = vec![4, 3, 16, 0, 0, 0, mark, 4];
+        corners.extend(in_bytes(&BUDGETS));
+        assert_eq!(both_ways(2, &corners), "corners 0 3 : 0 2 5 7");
+    }
+}
+
+/// The answer of the writer, without its place, for one interval of one period
+/// and these numbers of workload cores and other workload values.
+fn written(mark: u8, room: u16, budgets: &[u16], [cores, others]: [u16; 2]) -> String {
+    let mut body = vec![4, 16, 0, 0, 0, mark];
+    body.extend(room.to_le_bytes());
+    body.push(1);
+    body.extend(in_bytes(&[4, cores, others, others, others, 1]));
+    body.extend(in_bytes(budgets));
+    body.extend(vec![1; usize::from(cores) + 10 * usize::from(others)]);
+    let line = both_ways(6, &body);
+    line.split(" :").next().unwrap_or_default().to_string()
+}
+
+#[test]
+fn repeating_plan_is_not_written() {
+    assert_eq!(written(0, 42, &BUDGETS, [1, 1]), "write 0 42");
+    assert_eq!(written(0, 41, &BUDGETS, [1, 1]), "write 11 0");
+    assert_eq!(written(0, 0, &BUDGETS, [1, 0]), "write 25 0");
+    for mark in [MARK, 255] {
+        assert_eq!(written(mark, 42, &BUDGETS, [1, 1]), "write 23 0");
+        assert_eq!(written(mark, 0, &BUDGETS, [1, 0]), "write 23 0");
+        assert_eq!(written(mark, 42, &[2, 2, 5, 6], [1, 1]), "write 5 0");
+    }
+}
+
+#[test]
+fn read_plan_is_plain() {
+    let read = |file: &[u8]| {
+        let rooms = in_bytes(&[2, 8, 2, 2, 2, 2]);
+        let line = both_ways(5, &[&rooms, file].concat());
+        line.split(" :").next().unwrap_or_default().to_string()
+    };
+    assert_eq!(read(&LISTED_FILE), "read 0 0 4 16 0 2 2");
+    let mut marked = LISTED_FILE;
+    marked[5] = MARK;
+    assert_eq!(read(&marked), "read 23 0 0 0 0 0 0");
 }

@@ -13,7 +13,7 @@ plan-and-core-requires c κs = search needs
 returns : tie.Need-returns
 returns c =
     let args = c .before .before .before .args in
-    one-judged (args .head .cores) (args .head .«per_period» .0) (now (args .budgets)) (args .core) (c .plan-and-core .result) (c .plan-and-core .ensures)
+    one-judged (args .head) (now (args .budgets)) (args .core) (c .plan-and-core .result) (c .plan-and-core .ensures)
 
 pub one-interval-spec : {M : Type 1} → statement M
 one-interval-spec =

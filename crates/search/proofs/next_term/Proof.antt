@@ -34,7 +34,7 @@ shares-of-requires c κs = search needs
 greatest-requires : tie.Need-greatest-requires
 greatest-requires c κs =
     let start = c .before .before .before in
-    (start .pre .2 .fits, start .pre .2 .runs)
+    (start .pre .3 .fits, start .pre .3 .runs)
 
 enum-known-stall : tie.Need-enum-known-stall
 enum-known-stall c = search needs

@@ -17,7 +17,7 @@ use Rattle.search.proofs.search.Statement.{statement}
 use Rattle.search.proofs.search.Tie as tie
 
 abbrev Inv-loop : tie.InvT-loop
-Inv-loop picks count head lengths workload term₀ rounds₀ term rounds =
+Inv-loop picks count head cycle lengths workload term₀ rounds₀ term rounds =
     TermReached
     (termAfter (head .«per_period» .0) (sharesGiven lengths) (between 0 count picks) (workloadOf workload))
     (holding (head .«per_period» .0) (work (workloadOf workload)))
@@ -26,7 +26,7 @@ Inv-loop picks count head lengths workload term₀ rounds₀ term rounds =
     (term .0)
 
 abbrev μ-loop : tie.MeasureT-loop
-μ-loop picks count head lengths workload term₀ rounds₀ term rounds = workload .horizon .0 + 1 - term .0
+μ-loop picks count head cycle lengths workload term₀ rounds₀ term rounds = workload .horizon .0 + 1 - term .0
 
 -- the term after t
 abbrev nextOf : tie.Start Inv-loop μ-loop → ℕ → ℕ
@@ -90,7 +90,7 @@ loop-holds c =
 next-term-requires : tie.Need-next-term-requires Inv-loop μ-loop
 next-term-requires c κs =
     let pre = startOf (c .before .before .before) .pre in
-    (pre .0, pre .1, pre .2)
+    (pre .0, pre .1, pre .2, pre .3)
 
 enum-known-next : tie.Need-enum-known-next Inv-loop μ-loop
 enum-known-next c = search needs
@@ -103,7 +103,7 @@ add-rounds c =
     let else1 = c .before .before .before .before in
     let turn = else1 .before .before .before in
     let start = startOf turn in
-    let few = reached-rounds (nextOf start) (firstOf start) (start .args .workload .horizon .0) (start .pre .3) (turn .loop .rounds) (turn .loop .term .0) (turn .loop .inv) in
+    let few = reached-rounds (nextOf start) (firstOf start) (start .args .workload .horizon .0) (start .pre .4) (turn .loop .rounds) (turn .loop .term .0) (turn .loop .inv) in
     omega (arith, few, else1 .if1 .left, horizon-few start)
 
 -- a term that is not equal to the next is less
@@ -115,7 +115,7 @@ climbs c =
     let next = c .before .before .before .before in
     let turn = next .before .before .before .before .before .before in
     let start = startOf turn in
-    let up = reached-climbs (nextOf start) (firstOf start) (start .args .workload .horizon .0) (start .pre .3) (turn .loop .rounds) (turn .loop .term .0) (turn .loop .inv) in
+    let up = reached-climbs (nextOf start) (firstOf start) (start .args .workload .horizon .0) (start .pre .4) (turn .loop .rounds) (turn .loop .term .0) (turn .loop .inv) in
     lt-of-le-ne (subst (λ (n : ℕ). turn .loop .term .0 ≤ n) (sym (next-is next)) up) (λ e. c .if2 .left (sym e))
 
 loop-less : tie.Need-loop-less Inv-loop μ-loop

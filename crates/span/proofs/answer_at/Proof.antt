@@ -53,12 +53,12 @@ shares-of-requires c κs = search needs
 place-requires : tie.Need-place-requires
 place-requires c κs =
     let pre = c .before .before .before .before .before .pre in
-    (pre .0 .fits, pre .0 .inside, pre .1)
+    (pre .1 .fits, pre .1 .inside, pre .2)
 
 greatest-requires : tie.Need-greatest-requires
 greatest-requires c κs =
     let pre = c .before .before .before .before .before .before .before .before .before .pre in
-    (pre .0 .fits, pre .0 .runs)
+    (pre .1 .fits, pre .1 .runs)
 
 enum-known-stall : tie.Need-enum-known-stall
 enum-known-stall c = search needs
@@ -83,7 +83,7 @@ returns-2 c =
     let call = c .before .before in
     let start = startOf (call .before .before .before .before .before .before .before) in
     let long = rw (c .enum-told .given .1) at (made call) in
-    absurd (lt-irrefl (stallHere start) (omega (arith, long, start .pre .2)))
+    absurd (lt-irrefl (stallHere start) (omega (arith, long, start .pre .3)))
 
 pub answer-at-spec : {M : Type 1} → statement M
 answer-at-spec =

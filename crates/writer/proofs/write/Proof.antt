@@ -10,7 +10,7 @@ use Rattle.plan_laws.specs.SoundPlan.{SoundPlan, sound-plan}
 use Rattle.file_laws.specs.SoundRecords.{right-lists}
 use Rattle.judge.specs.Judged.{PlanJudged}
 use Rattle.record.specs.Given.{fileGiven}
-use Rattle.writer.specs.Written.{plan-refused, lists-refused, room-refused, file-written, file-length, file-stored}
+use Rattle.writer.specs.Written.{plan-refused, mark-refused, lists-refused, room-refused, file-written, file-length, file-stored}
 use Rattle.writer.proofs.write.Statement.{statement}
 use Rattle.writer.proofs.write.Tie as tie
 
@@ -45,55 +45,56 @@ returns c =
 enum-told : tie.Need-enum-told
 enum-told c = search needs
 
+abbrev startOf : tie.After-enum-told → tie.Start
+startOf c = c .before .before .before .before .before .before .before .before .before .before
+
 -- the plan is sound
-sound : (c : tie.After-enum-told)
-    → planRefusal (given (c .before .before .before .before .before .before .before .before .before .before) .plan) ≡ 0
+sound : (c : tie.After-enum-told) → planRefusal (given (startOf c) .plan) ≡ 0
 sound c =
     let told = subst (PlanJudged _) (c .enum-told .given .1) (c .before .before .plan .ensures) in
     told .0
 
 -- so it is within its bounds
-plan : (c : tie.After-enum-told)
-    → SoundPlan (given (c .before .before .before .before .before .before .before .before .before .before) .plan)
+plan : (c : tie.After-enum-told) → SoundPlan (given (startOf c) .plan)
 plan c = sound-plan _ (sound c)
+
+returns-2 : tie.Need-returns-2
+returns-2 c =
+    let start = startOf (c .before) in
+    mark-refused (given start) (start .args .place .now) (sound (c .before)) (c .if1 .taken)
 
 lists-wrong-requires : tie.Need-lists-wrong-requires
 lists-wrong-requires c κs = search needs
 
-returns-2 : tie.Need-returns-2
-returns-2 c =
-    let told = c .before .before in
-    let start = told .before .before .before .before .before .before .before .before .before .before in
+returns-3 : tie.Need-returns-3
+returns-3 c =
+    let plain = c .before .before in
+    let told = plain .before in
+    let start = startOf told in
     lists-refused
     (given start)
     (start .args .place .now)
     (sound told)
-    (sym (c .before .lists-wrong .ensures) ∙ c .if1 .taken)
+    (plain .if1 .left)
+    (sym (c .before .lists-wrong .ensures) ∙ c .if2 .taken)
 
 -- the lists of workload values are right
-right : (c : tie.Else1)
-    → let start = c .before .before .before .before .before .before .before .before .before .before .before .before in
-    listsWrong (given start .workloads) ≡ false
-right c = sym (c .before .lists-wrong .ensures) ∙ c .if1 .left
+right : (c : tie.Else2) → listsWrong (given (startOf (c .before .before .before)) .workloads) ≡ false
+right c = sym (c .before .lists-wrong .ensures) ∙ c .if2 .left
 
-lists : (c : tie.Else1)
-    → let start = c .before .before .before .before .before .before .before .before .before .before .before .before in
-    RightLists (given start .workloads)
+lists : (c : tie.Else2) → RightLists (given (startOf (c .before .before .before)) .workloads)
 lists c = right-lists _ (right c)
 
 intervals-length-requires : tie.Need-intervals-length-requires
 intervals-length-requires c κs =
-    let p = plan (c .before .before) in
+    let p = plan (c .before .before .before) in
     ((p .fewCores, p .fewIntervals), p .count)
 
 -- the bytes are counted
 counted : (c : tie.After-intervals-length)
-    → let start = c .before .before .before .before .before .before .before .before .before .before .before .before .before in
+    → let start = startOf (c .before .before .before .before) in
     10 + c .intervals-length .result + 16 * length (start .args .analysed .now) ≡ length (fileOf (given start))
-counted c =
-    let start =
-    c .before .before .before .before .before .before .before .before .before .before .before .before .before in
-    omega (arith, file-length (given start), c .intervals-length .ensures .0)
+counted c = omega (arith, file-length (given (startOf (c .before .before .before .before))), c .intervals-length .ensures .0)
 
 add-bytes : tie.Need-add-bytes
 add-bytes c = search needs
@@ -104,35 +105,36 @@ mul-bytes c = omega (arith, lists (c .before) .few)
 add-bytes-2 : tie.Need-add-bytes-2
 add-bytes-2 c = omega (arith, lists (c .before) .few, c .intervals-length .ensures .1)
 
-returns-3 : tie.Need-returns-3
-returns-3 c =
+returns-4 : tie.Need-returns-4
+returns-4 c =
     let call = c .before in
-    let told = call .before .before .before in
-    let start = told .before .before .before .before .before .before .before .before .before .before in
+    let plain = call .before .before .before in
+    let start = startOf (plain .before) in
     room-refused
     (given start)
     (start .args .place .now)
-    (sound told)
+    (sound (plain .before))
+    (plain .if1 .left)
     (right (call .before))
-    (rw (counted call) at (c .if2 .taken))
+    (rw (counted call) at (c .if3 .taken))
 
 -- there is room for the file
-room : (c : tie.Else2)
-    → let start = c .before .before .before .before .before .before .before .before .before .before .before .before .before .before in
+room : (c : tie.Else3)
+    → let start = startOf (c .before .before .before .before .before) in
     length (fileOf (given start)) ≤ length (start .args .place .now)
-room c = rw (counted (c .before)) at (c .if2 .left)
+room c = rw (counted (c .before)) at (c .if3 .left)
 
 put-head-requires : tie.Need-put-head-requires
 put-head-requires c κs =
     let here = c .before in
-    let p = plan (here .before .before .before .before) in
+    let p = plan (here .before .before .before .before .before) in
     (omega (arith, room here, counted (here .before)), (omega (arith, p .fewSlots), omega (arith, p .fewIntervals)))
 
 put-intervals-requires : tie.Need-put-intervals-requires
 put-intervals-requires c κs =
     let head = c .before .before .before in
     let here = head .before .before in
-    let p = plan (here .before .before .before .before) in (
+    let p = plan (here .before .before .before .before .before) in (
       (p .fewCores, p .count),
       omega (
         arith,
@@ -164,22 +166,23 @@ put-workloads-requires c κs =
 same-length : tie.Need-same-length
 same-length c = search needs
 
-returns-4 : tie.Need-returns-4
-returns-4 c =
+returns-5 : tie.Need-returns-5
+returns-5 c =
     let last = c .before .before in
     let put = last .before .before .before .before in
     let head = put .before .before .before .before in
     let here = head .before .before in
     let call = here .before in
-    let told = call .before .before .before in
-    let start = told .before .before .before .before .before .before .before .before .before .before in
+    let plain = call .before .before .before in
+    let start = startOf (plain .before) in
     let place = start .args .place .now in
     rw
     (counted call)
     (file-written
     (given start)
     place
-    (sound told)
+    (sound (plain .before))
+    (plain .if1 .left)
     (right (call .before))
     (room here)
     (file-stored
@@ -199,15 +202,16 @@ write-spec =
     enum-known-refusal
     returns
     enum-told
-    lists-wrong-requires
     returns-2
+    lists-wrong-requires
+    returns-3
     intervals-length-requires
     add-bytes
     mul-bytes
     add-bytes-2
-    returns-3
+    returns-4
     put-head-requires
     put-intervals-requires
     put-workloads-requires
     same-length
-    returns-4)
+    returns-5)
