@@ -39,14 +39,17 @@ pub fn four_at(body: &[u8], at: usize) -> u32 {
     }
 }
 
-// A plan's head: the cores first in the body, Q at an index, and the mark behind it, which is 0 for a plain plan.
-pub fn head_at(body: &[u8], at: usize) -> Head
-    requires { ⌜ at ≤ 2 ⌝ }
-{
+// The mark of a plan behind Q, which is at an index: 0 is a plain plan.
+fn mark_behind(body: &[u8], at: usize) -> bool {
+    at < body.len() && byte_at(body, at + 4) != 0
+}
+
+// A plan's head: the cores first in the body, Q at an index, and the mark behind it.
+pub fn head_at(body: &[u8], at: usize) -> Head {
     Head {
         cores: byte_at(body, 0),
         per_period: Slots(four_at(body, at)),
-        repeating: byte_at(body, at + 4) != 0,
+        repeating: mark_behind(body, at),
     }
 }
 
