@@ -12,7 +12,7 @@ use Rattle.meaning.specs.Plan.{budgetOf}
 use Rattle.meaning.specs.Curve.{Corner, Curve, Envelope, slope, raw, blockOf}
 use Rattle.number_laws.specs.Order.{le-or-lt}
 use Rattle.number_laws.specs.Zeros.{zeros}
-use Rattle.curve_laws.specs.EnvelopeConcave.{Rises}
+use Rattle.curve_laws.specs.EnvelopeConcave.{Rises, envelope-start}
 use Rattle.curve_laws.specs.RawStall.{raw-rises, raw-le}
 use Rattle.curve_laws.specs.SegmentCount.{at-most-cores}
 use Rattle.curve_laws.specs.CornerStack.{Stack, Open, pointAt, turned, top-on-raw, open-first, open-pop, open-push, stack-envelope}
@@ -232,3 +232,10 @@ pub holds-most : (perPeriod core : ℕ) (row : List ℕ) (b : Block)
 holds-most perPeriod core row b i (c, envelope, holds) =
     let few = at-most-cores perPeriod row core (budgetOf core row) c (i .whole .sums) (le-refl (budgetOf core row)) envelope in
     omega (arith, holds .count, i .cores)
+
+-- its first stall is the raw stall at 0 requests
+pub holds-base : (perPeriod core : ℕ) (row : List ℕ) (b : Block)
+    → HoldsEnvelope perPeriod core row b
+    → getD (b .stalls) 0 0 ≡ raw perPeriod row core 0
+holds-base perPeriod core row b (c, envelope, holds) =
+    ap (λ (l : List ℕ). getD l 0 0) (holds .stalls) ∙ envelope-start (raw perPeriod row core) (budgetOf core row) c envelope

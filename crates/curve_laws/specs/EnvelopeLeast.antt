@@ -10,7 +10,7 @@ use Rattle.meaning.specs.Fraction.{Fraction, Proper, whole, _≤ᶠ_, _=ᶠ_, t
 use Rattle.meaning.specs.Curve.{Corner, Curve, lastOf, OnRaw, Rising, Climbing, Covering, Envelope, onSegment, intervalStall, stallFrom, NowhereBelow, onChord, OnChord, ConcaveAny}
 use Rattle.number_laws.specs.Order.{le-or-lt}
 use Rattle.number_laws.specs.Fractions.{le-trans-fraction}
-use Rattle.curve_laws.specs.EnvelopeConcave.{Rises, envelope-concave, rate-le-last}
+use Rattle.curve_laws.specs.EnvelopeConcave.{Rises, envelope-concave, rate-le-last, single-stall}
 use Rattle.curve_laws.specs.Price.{Under}
 
 over-from : (stallAt : ℕ → ℕ) (r : ℕ) (a : Corner) (cs : List Corner)
@@ -148,15 +148,6 @@ chord-under w a b x h g f k first second =
       mul-le-mul-left ((x - w * a) * f .den * (b - a)) second,
     )
 
--- where q is 0 the envelope has one corner, and w periods stall w times the raw stall there
-envelope-single : (stallAt : ℕ → ℕ) (c : Curve) → Envelope stallAt 0 c → (w x : ℕ) → intervalStall c w x ≡ whole (w * stallAt 0)
-unfolding stallFrom
-envelope-single stallAt c env w x = by-corners (c .rest) env
-  where
-    by-corners : (cs : List Corner) → Envelope stallAt 0 (record { first = c .first; rest = cs }) → stallFrom (c .first) cs w x ≡ whole (w * stallAt 0)
-    by-corners [] e = ap (λ (n : ℕ). whole (w * n)) (e .onRaw ∙ ap stallAt (e .starts))
-    by-corners (b ∷ cs) e = absurd (lt-irrefl 0 (omega (arith, e .rising .0, rate-le-last b cs (e .rising .1), e .ends)))
-
 -- so no concave curve of any kind that is nowhere below the raw stall is anywhere below the envelope
 pub envelope-least : (stallAt : ℕ → ℕ) (q : ℕ) (c : Curve) (value : ℕ → ℕ → Fraction)
     → Rises stallAt q
@@ -172,7 +163,7 @@ envelope-least stallAt q c value rises env any over w x to = ⊎-elim single sev
     single none =
         let zero : q ≡ 0 = omega (arith, none) in
         let here : x ≡ w * 0 = omega (arith, to, ap (λ (n : ℕ). w * n) zero) in
-        let stall = envelope-single stallAt c (subst (λ (n : ℕ). Envelope stallAt n c) zero env) w x in
+        let stall = single-stall stallAt c (subst (λ (n : ℕ). Envelope stallAt n c) zero env) w x in
         let first : whole (w * stallAt 0) ≤ᶠ timesOf w (value 1 0) = omega (arith, mul-le-mul-left w (over 0 (omega arith))) in
         let point = le-trans-fraction (whole (w * stallAt 0)) (timesOf w (value 1 0)) (value w (w * 0)) (any .proper 1 0) first (any .points w 0 (omega arith)) in
         subst₂ (λ (f : Fraction) (n : ℕ). f ≤ᶠ value w n) (sym stall) (sym here) point

@@ -10,3 +10,4 @@ pub mod FilledToCorner
 pub mod StallConcave
 pub mod EnvelopeLeast
 pub mod CurveQuestions
+pub mod ParkedCurve

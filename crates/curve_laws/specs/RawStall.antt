@@ -1,5 +1,5 @@
 -- The raw stall of one interval (004, equation 2), for any number of cores: it does not fall, and a period has room for it.
-use mathlib.Core.Path.{_≡_, refl, sym}
+use mathlib.Core.Path.{_≡_, refl, sym, ap}
 use mathlib.Core.List.{List, [], _∷_}
 use mathlib.Core.Logic.{⊎-elim}
 use Prim.Native.Nat.{ℕ, zero, suc, _+_, _-_, _≤_, _<_, suc-le-suc}
@@ -8,6 +8,7 @@ use native.Mathlib.Omega.{arith}
 use lib.ListN.{length, getD}
 use borrow.Author.Tests.{lt-ltb, le-ltb}
 use Rattle.meaning.specs.Plan.{sumOf, budgetOf}
+use Rattle.number_laws.specs.Order.{le-or-lt}
 use Rattle.meaning.specs.Curve.{others, sumOfSmaller, raw}
 use Rattle.curve_laws.specs.EnvelopeConcave.{Rises}
 
@@ -24,7 +25,7 @@ smaller-le-sum [] r = le-refl 0
 smaller-le-sum (b ∷ bs) r = omega (arith, smaller-le-sum bs r)
 
 -- no request meets none
-pub smaller-none : (bs : List ℕ) → sumOfSmaller 0 bs ≡ 0
+smaller-none : (bs : List ℕ) → sumOfSmaller 0 bs ≡ 0
 unfolding sumOfSmaller
 smaller-none [] = refl
 smaller-none (b ∷ bs) = omega (arith, smaller-none bs)
@@ -83,18 +84,25 @@ module _ (perPeriod : ℕ) (row : List ℕ) (core : ℕ) (sums : sumOf row ≡ p
   -- the sum of the smaller ones is at most the raw stall, the core's budget included
   pub smaller-le-raw : (r : ℕ)
       → r ≤ budgetOf core row
-      → 0 < budgetOf core row
       → sumOfSmaller r (others (core - 1) row) ≤ raw perPeriod row core r
-  smaller-le-raw r h some = ⊎-elim full below (eq-or-lt-of-le h)
+  smaller-le-raw r h = ⊎-elim full below (eq-or-lt-of-le h)
     where
-      full : r ≡ budgetOf core row → sumOfSmaller r (others (core - 1) row) ≤ raw perPeriod row core r
-      full e =
+      none : r ≤ 0 → sumOfSmaller r (others (core - 1) row) ≤ raw perPeriod row core r
+      none low =
+          let zero : 0 ≡ r = omega (arith, low) in
+          omega (arith, smaller-none (others (core - 1) row), ap (λ (n : ℕ). sumOfSmaller n (others (core - 1) row)) zero)
+
+      some : r ≡ budgetOf core row → 0 < r → sumOfSmaller r (others (core - 1) row) ≤ raw perPeriod row core r
+      some e more =
           omega (
             arith,
             raw-full perPeriod row core r (le-of-eq (sym e)),
-            others-sum (core - 1) row (budget-in-row (core - 1) row some),
+            others-sum (core - 1) row (budget-in-row (core - 1) row (omega (arith, e, more))),
             smaller-le-sum (others (core - 1) row) r,
           )
+
+      full : r ≡ budgetOf core row → sumOfSmaller r (others (core - 1) row) ≤ raw perPeriod row core r
+      full e = ⊎-elim none (some e) (le-or-lt r 0)
 
       below : r < budgetOf core row → sumOfSmaller r (others (core - 1) row) ≤ raw perPeriod row core r
       below l = le-of-eq (sym (raw-below perPeriod row core r l))
@@ -112,7 +120,7 @@ module _ (perPeriod : ℕ) (row : List ℕ) (core : ℕ) (sums : sumOf row ≡ p
             arith,
             raw-below perPeriod row core r (lt-of-lt-of-le l le),
             smaller-rises (others (core - 1) row) h,
-            smaller-le-raw s le (omega arith),
+            smaller-le-raw s le,
           )
 
   -- a period has room for its requests and their raw stall

@@ -111,7 +111,7 @@ raw-bend perPeriod row core sums r some less bends =
       arith,
       raw-below perPeriod row core (r - 1) (omega arith),
       raw-below perPeriod row core r less,
-      smaller-le-raw perPeriod row core sums (suc r) less (omega arith),
+      smaller-le-raw perPeriod row core sums (suc r) less,
     )
 
 -- the step at 0 is at most one for each other core, so the segments are no more than the cores

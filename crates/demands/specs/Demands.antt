@@ -2,7 +2,7 @@
 use mathlib.Core.Path.{_≡_, refl, sym, ap, _∙_, subst}
 use mathlib.Core.Logic.{_↔_}
 use mathlib.Core.Bool.{true, false}
-use mathlib.Core.List.{List, _++_, map}
+use mathlib.Core.List.{List, [], _++_, map}
 use Prim.Native.Nat.{ℕ, suc, _+_, _*_, _≤_, _<_}
 use native.Mathlib.Nat.{le-refl}
 use lib.ListN.{length, getD, take, drop}
@@ -11,19 +11,21 @@ use Rattle.meaning.specs.Plan.{Plan, Workload, sumOf, intervals, periods, rows,
 use Rattle.meaning.specs.Curve.{Curve, limit, raw, EnvelopeOf, intervalStall, OnChord, ConcaveAny}
 use Rattle.meaning.specs.Placement.{Part, shares, sharesAt, Parts, total}
 use Rattle.meaning.specs.Span.{StallAt, PlacedAt, IsSpan, NoSpan, Rounds, firstTerm}
-use Rattle.meaning.specs.Run.{Period, Lawful, EndsWithin}
-use Rattle.meaning.specs.Refusals.{planRefusal, coreRefusal, spanRefusal}
+use Rattle.meaning.specs.Run.{Period, Allowed, Lawful, EndsWithin}
+use Rattle.meaning.specs.Refusals.{planRefusal, spanRefusal}
 use Rattle.meaning.specs.PlanFile.{PlanFile, Reading, readFile, fileOf, Bytes, Widths}
-use Rattle.meaning.specs.Promises.{RawPromise, CornersPromise, PlacementPromise, SpanFigures, noSpanFigures, SpanPromise, ReadFigures, noFileFigures, fileFigures, fileWritten, fileHeld, fits, Places, ReadPromise, WriteFigures, WritePromise}
+use Rattle.meaning.specs.Promises.{RawFigures, RawPromise, CornersFigures, CornersPromise, PlacementFigures, PlacementPromise, SpanFigures, noSpanFigures, SpanPromise, ReadFigures, noFileFigures, fileFigures, fileWritten, fileHeld, fits, Places, ReadPromise, WriteFigures, WritePromise}
 use Rattle.meaning.specs.Listing.{Listing, lineCount, LineOf, linesFrom}
 use Rattle.meaning.specs.Again.{NoMoreWork, longer, until, zerosFor}
-use Rattle.plan_laws.specs.SoundPlan.{sound-plan, sound-core, plan-whole}
+use Rattle.plan_laws.specs.SoundPlan.{sound-plan, plan-whole}
 use Rattle.plan_laws.specs.RefusedZeros.{raw-refused-zeros, corners-refused-zeros, placement-refused-zeros, span-refused-zeros, read-refused-zeros, write-refused-zeros}
+use Rattle.plan_laws.specs.SevenUnused.{raw-not-seven, corners-not-seven, placement-not-seven, span-not-seven, read-not-seven, write-not-seven}
 use Rattle.curve_laws.specs.RawStall.{raw-rises}
 use Rattle.curve_laws.specs.CornerStack.{envelope-exists}
 use Rattle.curve_laws.specs.EnvelopeUnique.{envelope-unique}
 use Rattle.curve_laws.specs.SegmentCount.{at-most-cores}
 use Rattle.curve_laws.specs.EnvelopeLeast.{envelope-over, envelope-on-chord, envelope-least}
+use Rattle.curve_laws.specs.ParkedCurve.{parked-raw, parked-envelope, parked-curve, parked-adds, parked-allowed}
 use Rattle.curve_laws.specs.CurveQuestions.{raw-answer-exists, raw-answer-unique, corners-answer-exists, corners-answer-unique}
 use Rattle.placement_laws.specs.Shares.{shares-more, plan-sharing, plan-first-cycle, plan-full-cycles}
 use Rattle.placement_laws.specs.StallUnique.{row-concave, parts-concave, parts-proper}
@@ -109,6 +111,33 @@ pub write-answered : (f : PlanFile) (place : List ℕ)
 write-answered f place =
     one-answer _ _ _ place (write-answer-exists f place) (write-answer-unique f place) (write-refused-zeros f place)
 
+-- 2026-02, "7 never occurs from here on": in no question, for no input, whatever meets its promise
+pub record SevenNever : Type 0 where
+  pub rawStall : (m perPeriod : ℕ) (budgets : List ℕ) (core r : ℕ) (a : RawFigures) → RawPromise m perPeriod budgets core r a → a .refused ≡ 7 → ⊥
+  pub corners : (m perPeriod : ℕ) (budgets : List ℕ) (core : ℕ) (place : List ℕ) (a : CornersFigures) (after : List ℕ)
+      → CornersPromise m perPeriod budgets core place a after
+      → a .refused ≡ 7
+      → ⊥
+  pub placement : (p : Plan) (core requests n : ℕ) (place : List ℕ) (a : PlacementFigures) (after : List ℕ)
+      → PlacementPromise p core requests n place a after
+      → a .refused ≡ 7
+      → ⊥
+  pub span : (p : Plan) (w : Workload) (place : List ℕ) (a : SpanFigures) (after : List ℕ) → SpanPromise p w place a after → a .refused ≡ 7 → ⊥
+  pub read : (file : List ℕ) (places : Places) (a : ReadFigures) (after : Places) → ReadPromise file places a after → a .refused ≡ 7 → ⊥
+  pub write : (f : PlanFile) (place : List ℕ) (a : WriteFigures) (after : List ℕ) → WritePromise f place a after → a .refused ≡ 7 → ⊥
+
+-- that is so of all six questions
+pub seven-never : SevenNever
+seven-never =
+    record {
+      rawStall = raw-not-seven;
+      corners = corners-not-seven;
+      placement = placement-not-seven;
+      span = span-not-seven;
+      read = read-not-seven;
+      write = write-not-seven;
+    }
+
 -- every file has exactly one listing, and its lines in order make it
 pub listing-answered : (file : List ℕ)
     → (text : List ℕ)
@@ -147,14 +176,13 @@ span-certain p w place a after h none =
       fewRounds = answer-rounds p w (length place) a (take (intervals p) after) (seen .answer) none;
     }
 
--- "its greatest total stall": S(W) is a value, and one alone, whatever W
+-- "its greatest total stall": S(W) of a plan that is not refused is a value, and one alone, whatever the core and W
 pub stall-certain : (p : Plan) (w : Workload) (n : ℕ)
     → planRefusal p ≡ 0
-    → coreRefusal p (w .core) ≡ 0
     → (f : Fraction) × StallAt p w n f × ((g : Fraction) → StallAt p w n g → g =ᶠ f)
-stall-certain p w n plan core =
+stall-certain p w n plan =
     let sound = sound-plan p plan in
-    let found = placed-at-exists p w sound (sound-core p (w .core) core) n in
+    let found = placed-at-exists p w sound n in
     let f = total (found .2 .parts) (found .0) in
     let greatest = placed-at-greatest p w sound n (found .0) (found .1) (found .2) in
     (f, greatest, λ g h. stall-at-same p w sound n g f h greatest)
@@ -268,18 +296,17 @@ pub intervals-behind-same : (p : Plan) (ls bs : List ℕ) (w : Workload) (place 
     → SpanPromise p w place a after
     → a .refused ≡ 0
     → planRefusal (longer p ls bs) ≡ 0
-    → coreRefusal (longer p ls bs) (w .core) ≡ 0
     → intervals (longer p ls bs) ≤ length place'
     → SpanPromise (longer p ls bs) w place' b after'
     → (b ≡ a) × (take (intervals (longer p ls bs)) after' ≡ take (intervals p) after ++ zerosFor ls)
-intervals-behind-same p ls bs w place place' a b after after' plain first none plan core lent again =
+intervals-behind-same p ls bs w place place' a b after after' plain first none plan lent again =
     let xs = take (intervals p) after in
     let answer = seen-span p w place a after first none .answer in
-    let same = asked-longer p ls bs w (length place) (length place') a b xs (again .0) plain answer none plan core lent (again .1) .0 in
+    let same = asked-longer p ls bs w (length place) (length place') a b xs (again .0) plain answer none plan lent (again .1) .0 in
     let seen = seen-span (longer p ls bs) w place' b after' again (ap (λ (f : SpanFigures). f .refused) same ∙ none) in
-    (same, asked-longer p ls bs w (length place) (length place') a b xs _ plain answer none plan core lent (seen .answer) .1)
+    (same, asked-longer p ls bs w (length place) (length place') a b xs _ plain answer none plan lent (seen .answer) .1)
 
--- document 01 on the envelope of an interval whose budgets sum to Q: its corners exist and are the only ones, it has at most m segments, it is nowhere below the raw stall at whole r, each value of it lies on the chord of two raw stalls, no periods take no requests and stall 0, and no concave curve of any kind that is nowhere below the raw stall is anywhere below it
+-- document 01 on the envelope of an interval whose budgets sum to Q: its corners exist and are the only ones, it has at most m segments, it is nowhere below the raw stall at whole r, where the core has a budget each value of it lies on the chord of two raw stalls, no periods take no requests and stall 0, and no concave curve of any kind that is nowhere below the raw stall is anywhere below it
 pub record EnvelopeCertain (perPeriod core : ℕ) (budgets : List ℕ) : Type 0 where
   pub curve : Curve
   pub envelope : EnvelopeOf perPeriod core budgets curve
@@ -318,6 +345,25 @@ envelope-certain perPeriod core budgets sums =
           let fits : x ≤ 0 * limit (found .0) = subst (λ (n : ℕ). x ≤ 0 * n) (sym (found .1 .ends)) takes in
           (idle-takes idle x refl fits, idle-stall idle x refl (row-concave perPeriod core budgets (found .0) sums (found .1)) fits);
       least = λ value. envelope-least rawAt q (found .0) value rises (found .1);
+    }
+
+-- 2026-02 on an interval in which the core is parked: "at 0 requests the raw stall is the whole Q .. the curve has one corner and no segment, and an interval of parked periods adds Q for each period, requests or none"; a parked period of a run has no requests and a stall of at most Q, and may compute
+pub record ParkedCertain (perPeriod core : ℕ) (budgets : List ℕ) : Type 0 where
+  pub atNone : raw perPeriod budgets core 0 ≡ perPeriod
+  pub envelope : EnvelopeOf perPeriod core budgets (record { first = record { rate = 0; stall = perPeriod }; rest = [] })
+  pub only : (c : Curve) → EnvelopeOf perPeriod core budgets c → c ≡ record { first = record { rate = 0; stall = perPeriod }; rest = [] }
+  pub adds : (c : Curve) → EnvelopeOf perPeriod core budgets c → (w x : ℕ) → intervalStall c w x ≡ whole (w * perPeriod)
+  pub inRuns : (d : Period) → Allowed perPeriod core budgets d ↔ ((d .requests ≡ 0) × (d .stall ≤ perPeriod))
+
+-- that is so wherever the core's budget is 0
+pub parked-certain : (perPeriod core : ℕ) (budgets : List ℕ) → budgetOf core budgets ≡ 0 → ParkedCertain perPeriod core budgets
+parked-certain perPeriod core budgets parked =
+    record {
+      atNone = parked-raw perPeriod core budgets parked;
+      envelope = parked-envelope perPeriod core budgets parked;
+      only = parked-curve perPeriod core budgets parked;
+      adds = parked-adds perPeriod core budgets parked;
+      inRuns = parked-allowed perPeriod core budgets parked;
     }
 
 -- "a fraction is a pair of them with a divisor of at least 1": so is every total of a plan's parts, whatever the placement

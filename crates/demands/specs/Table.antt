@@ -1,6 +1,6 @@
 -- The table P1 to P10 of document 01, with the numbers worked for the requests of document 02, under one proved statement over the definitions.
 use mathlib.Core.Path.{_≡_, refl}
-use mathlib.Core.Bool.{true, false}
+use mathlib.Core.Bool.{Bool, true, false}
 use mathlib.Core.List.{List, [], _∷_}
 use Prim.Native.Nat.{ℕ}
 use lib.ListN.{length}
@@ -9,10 +9,10 @@ use Rattle.meaning.specs.Plan.{Plan, Workload, intervals, rowsOf, All}
 use Rattle.meaning.specs.Curve.{Curve, raw, others, sumOfSmaller, rates, stalls, EnvelopeOf, intervalStall, stallFrom}
 use Rattle.meaning.specs.Placement.{shares, AnsweredAt}
 use Rattle.meaning.specs.Span.{firstTerm, NextTerm}
-use Rattle.meaning.specs.Refusals.{intervalsRefusal, planRefusal, withoutBudget, coreRefusal, placementRefusal, spanRefusal}
+use Rattle.meaning.specs.Refusals.{intervalsRefusal, planRefusal, coreRefusal, placementRefusal, spanRefusal}
 use Rattle.meaning.specs.PlanFile.{tabulate}
 use Rattle.meaning.specs.Promises.{SpanFigures, noSpanFigures, SpanAnswered}
-use Rattle.number_laws.specs.Lists.{listFrom}
+use Rattle.number_laws.specs.Lists.{listFrom, sumFrom}
 use Rattle.placement_laws.specs.Filling.{walk, fill}
 use Rattle.placement_laws.specs.OrderMerged.{orderTo, merged, weave, picksFrom}
 use Rattle.span_laws.specs.SearchFinds.{sought, oneMore}
@@ -21,9 +21,9 @@ use Rattle.span_laws.specs.WorkedAnswers.{claim-next}
 use Rattle.demands.specs.Worked.{exampleMarked, examplePlan}
 
 infixr 10 _also_
--- a row: the raw stalls and the corners of a core with budgets 2, 2, 5, 7 and Q = 16; or a workload on a plan and its answer; or its terms; or a placement at a given W and its stall
+-- a row: the raw stalls and the corners of a core with these budgets and Q = 16; or a workload on a plan and its answer; or its terms; or a placement at a given W and its stall
 pub data Row : Type 0 where
-  curveRow : (core : ℕ) (raws corners : List ℕ) → Row
+  curveRow : (budgets : List ℕ) (core : ℕ) (raws corners : List ℕ) → Row
   spanRow : Plan → Workload → SpanFigures → List ℕ → Row
   termsRow : Plan → Workload → List ℕ → Row
   placementRow : Plan → (core requests n : ℕ) → (stall : ℕ) → List ℕ → Row
@@ -70,6 +70,29 @@ listingRepeats = exampleMarked true
 abbrev pub oneRepeats : Plan
 oneRepeats = record { cores = 4; perPeriod = 16; repeating = true; lengths = 1 ∷ []; budgets = budgets }
 
+-- the budgets of an interval in which core 1 is parked
+abbrev pub parkedBudgets : List ℕ
+parkedBudgets = 0 ∷ 4 ∷ 6 ∷ 6 ∷ []
+
+-- three intervals, core 1 parked in the first and the last, with a mark
+abbrev pub parkedMarked : Bool → Plan
+parkedMarked repeating =
+    record {
+      cores = 4;
+      perPeriod = 16;
+      repeating = repeating;
+      lengths = 2 ∷ 3 ∷ 1 ∷ [];
+      budgets = 0 ∷ 4 ∷ 6 ∷ 6 ∷ 2 ∷ 2 ∷ 5 ∷ 7 ∷ 0 ∷ 5 ∷ 5 ∷ 6 ∷ [];
+    }
+
+-- the same, plain
+abbrev pub parked : Plan
+parked = parkedMarked false
+
+-- two cores, the first parked all the way
+abbrev pub parkedThrough : Plan
+parkedThrough = record { cores = 2; perPeriod = 16; repeating = false; lengths = 5 ∷ []; budgets = 0 ∷ 16 ∷ [] }
+
 -- a workload: core, computing, requests, horizon
 abbrev pub load : ℕ → ℕ → ℕ → ℕ → Workload
 load core computing requests horizon =
@@ -83,11 +106,11 @@ given span stall rounds = record { refused = 0; span = span; stall = stall; roun
 abbrev pub table : List Row
 table =
     -- P1
-    curveRow 1 (0 ∷ 3 ∷ 14 ∷ []) (0 ∷ 2 ∷ [])
+    curveRow budgets 1 (0 ∷ 3 ∷ 14 ∷ []) (0 ∷ 2 ∷ [])
     -- P2
-    ∷ curveRow 3 (0 ∷ 3 ∷ 6 ∷ 7 ∷ 8 ∷ 11 ∷ []) (0 ∷ 2 ∷ 5 ∷ [])
+    ∷ curveRow budgets 3 (0 ∷ 3 ∷ 6 ∷ 7 ∷ 8 ∷ 11 ∷ []) (0 ∷ 2 ∷ 5 ∷ [])
     -- P3
-    ∷ curveRow 4 (0 ∷ 3 ∷ 6 ∷ 7 ∷ 8 ∷ 9 ∷ 9 ∷ 9 ∷ []) (0 ∷ 2 ∷ 5 ∷ 7 ∷ [])
+    ∷ curveRow budgets 4 (0 ∷ 3 ∷ 6 ∷ 7 ∷ 8 ∷ 9 ∷ 9 ∷ 9 ∷ []) (0 ∷ 2 ∷ 5 ∷ 7 ∷ [])
     -- P4, with H = 10 the same, and its terms
     ∷ spanRow plan (load 3 40 35 20) (given 10 85 3) (35 ∷ [])
     ∷ spanRow plan (load 3 40 35 10) (given 10 85 3) (35 ∷ [])
@@ -128,6 +151,24 @@ table =
     -- one period that repeats: as P4 with H = 20, and 12 with H = 9
     ∷ spanRow oneRepeats (load 3 40 35 20) (given 10 85 3) (35 ∷ [])
     ∷ spanRow oneRepeats (load 3 40 35 9) (noSpanFigures 12) []
+    -- 2026-02: a parked core's one corner, and core 2 beside it
+    ∷ curveRow parkedBudgets 1 (16 ∷ []) (0 ∷ [])
+    ∷ curveRow parkedBudgets 2 (0 ∷ 2 ∷ 4 ∷ 6 ∷ 12 ∷ []) (0 ∷ 4 ∷ [])
+    -- parked first and last: each parked period that is met adds Q, requests or none
+    ∷ spanRow parked (load 1 1 0 6) (given 3 32 3) (0 ∷ 0 ∷ 0 ∷ [])
+    ∷ termsRow parked (load 1 1 0 6) (1 ∷ 2 ∷ 3 ∷ 3 ∷ [])
+    ∷ spanRow parked (load 1 17 0 6) (given 4 32 2) (0 ∷ 0 ∷ 0 ∷ [])
+    ∷ spanRow parked (load 1 1 2 6) (given 4 46 4) (0 ∷ 2 ∷ 0 ∷ [])
+    ∷ spanRow parked (load 1 10 1 6) (given 4 39 4) (0 ∷ 1 ∷ 0 ∷ [])
+    ∷ spanRow parked (load 1 1 6 6) (noSpanFigures 12) []
+    ∷ placementRow parked 1 2 1 16 (0 ∷ 0 ∷ 0 ∷ [])
+    ∷ placementRow parked 1 2 2 32 (0 ∷ 0 ∷ 0 ∷ [])
+    ∷ placementRow parked 1 2 3 46 (0 ∷ 2 ∷ 0 ∷ [])
+    ∷ placementRow parked 1 2 5 46 (0 ∷ 2 ∷ 0 ∷ [])
+    ∷ placementRow parked 1 2 6 62 (0 ∷ 2 ∷ 0 ∷ [])
+    ∷ spanRow (parkedMarked true) (load 1 20 4 65_535) (given 9 108 6) (0 ∷ 4 ∷ 0 ∷ [])
+    -- parked all the way
+    ∷ spanRow parkedThrough (load 1 1 0 5) (noSpanFigures 12) []
     ∷ []
 
 -- each number is the next term of the one before it, the first of them that of t
@@ -142,11 +183,8 @@ Terms p w (t ∷ later) = (t ≡ firstTerm p w) × NextTerms p w t later
 
 -- what a row says, over the definitions
 abbrev pub RowHolds : Row → Type 0
-RowHolds (curveRow core raws corners) =
-    (tabulate (length raws) (raw 16 budgets core) ≡ raws)
-    × (c : Curve)
-    × EnvelopeOf 16 core budgets c
-    × (rates c ≡ corners)
+RowHolds (curveRow row core raws corners) =
+    (tabulate (length raws) (raw 16 row core) ≡ raws) × (c : Curve) × EnvelopeOf 16 core row c × (rates c ≡ corners)
 RowHolds (spanRow p w a xs) = SpanAnswered p w (intervals p) a xs
 RowHolds (termsRow p w terms) = Terms p w terms
 RowHolds (placementRow p core requests n stall xs) =
@@ -172,7 +210,7 @@ curve4 =
       rest = record { rate = 2; stall = 6 } ∷ record { rate = 5; stall = 9 } ∷ record { rate = 7; stall = 9 } ∷ [];
     }
 
--- the corners of core 3 with equal budgets
+-- the corners of core 3 with equal budgets, and of core 2 beside a parked core
 abbrev equal3 : Curve
 equal3 = record { first = record { rate = 0; stall = 0 }; rest = record { rate = 4; stall = 12 } ∷ [] }
 
@@ -197,13 +235,21 @@ second3 =
 abbrev third3 : Curve
 third3 = record { first = record { rate = 0; stall = 0 }; rest = record { rate = 1; stall = 15 } ∷ [] }
 
+-- the one corner of a parked core
+abbrev parked1 : Curve
+parked1 = record { first = record { rate = 0; stall = 16 }; rest = [] }
+
+-- the corners of core 1 in the three intervals, parked in the first and the last
+abbrev parkedCurves : List Curve
+parkedCurves = parked1 ∷ curve1 ∷ parked1 ∷ []
+
 -- one more row
 abbrev _also_ : {A B : Type 0} → A → B → A × B
 _also_ row later = (row, later)
 
 -- every row of the table holds
 pub table-holds : All RowHolds table
-unfolding raw others sumOfSmaller tabulate covered cornersRight envelopeRight curvesRight rowsOf intervalsRefusal planRefusal withoutBudget coreRefusal placementRefusal spanRefusal shares roundUp listFrom walk fill orderTo merged weave picksFrom sought oneMore
+unfolding raw others sumOfSmaller tabulate covered cornersRight envelopeRight curvesRight rowsOf intervalsRefusal planRefusal coreRefusal placementRefusal spanRefusal shares roundUp listFrom sumFrom walk fill orderTo merged weave picksFrom sought oneMore
 table-holds =
     (refl, curve1, envelope-checked (raw 16 budgets 1) 2 curve1 refl, refl)
     also (refl, curve3, envelope-checked (raw 16 budgets 3) 5 curve3 refl, refl)
@@ -239,6 +285,25 @@ table-holds =
     also (refl, claim-placement listingRepeats 3 25 65_535 2 (curve3 ∷ equal3 ∷ []) refl refl)
     also claim-answer oneRepeats (load 3 40 35 20) 1 (curve3 ∷ []) refl refl
     also claim-answer oneRepeats (load 3 40 35 9) 1 (curve3 ∷ []) refl refl
+    also (refl, parked1, envelope-checked (raw 16 parkedBudgets 1) 0 parked1 refl, refl)
+    also (refl, equal3, envelope-checked (raw 16 parkedBudgets 2) 4 equal3 refl, refl)
+    also claim-answer parked (load 1 1 0 6) 3 parkedCurves refl refl
+    also (refl
+    also claim-next parked (load 1 1 0 6) 1 3 parkedCurves refl refl
+    also claim-next parked (load 1 1 0 6) 2 3 parkedCurves refl refl
+    also claim-next parked (load 1 1 0 6) 3 3 parkedCurves refl refl
+    also tt)
+    also claim-answer parked (load 1 17 0 6) 3 parkedCurves refl refl
+    also claim-answer parked (load 1 1 2 6) 3 parkedCurves refl refl
+    also claim-answer parked (load 1 10 1 6) 3 parkedCurves refl refl
+    also claim-answer parked (load 1 1 6 6) 3 parkedCurves refl refl
+    also (refl, claim-placement parked 1 2 1 3 parkedCurves refl refl)
+    also (refl, claim-placement parked 1 2 2 3 parkedCurves refl refl)
+    also (refl, claim-placement parked 1 2 3 3 parkedCurves refl refl)
+    also (refl, claim-placement parked 1 2 5 3 parkedCurves refl refl)
+    also (refl, claim-placement parked 1 2 6 3 parkedCurves refl refl)
+    also claim-answer (parkedMarked true) (load 1 20 4 65_535) 3 parkedCurves refl refl
+    also claim-answer parkedThrough (load 1 1 0 5) 1 (parked1 ∷ []) refl refl
     also tt
 
 -- 004: core 3's envelope, with corners 0, 2, 5 and stalls 0, 6, 11 there, gives 9 periods with 35 requests a stall of 82 1/3

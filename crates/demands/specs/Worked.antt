@@ -5,7 +5,7 @@ use mathlib.Core.List.{List, [], _∷_, map}
 use Prim.Native.Nat.{ℕ}
 use Rattle.meaning.specs.Plan.{Plan, rowsOf}
 use Rattle.meaning.specs.Placement.{shares, sharesAt}
-use Rattle.meaning.specs.Refusals.{planRefusal, intervalsRefusal, coreRefusal, withoutBudget, cornersRefusal, placementRefusal}
+use Rattle.meaning.specs.Refusals.{planRefusal, intervalsRefusal, coreRefusal, rawRefusal, cornersRefusal, placementRefusal}
 use Rattle.meaning.specs.PlanFile.{Reading, PlanFile, readFile, headFault, intervalFault, workloadFault, recordFault, readIntervals, readWorkloads, tabulate, listedZero, fileOf, intervalRecords, workloadRecords, maskOf, listedOf}
 use Rattle.meaning.specs.Listing.{digits, spaced, planLine, spanLine, refusedLine, endLine}
 use lib.Count.{ones, onesIn}
@@ -15,14 +15,19 @@ pub not-whole : cornersRefusal 4 16 (2 ∷ 2 ∷ 5 ∷ 6 ∷ []) 3 ≡ 5
 unfolding cornersRefusal planRefusal intervalsRefusal rowsOf
 not-whole = refl
 
--- budgets 0, 4, 6, 6: core 1 gets 7, core 2 doesn't
-pub no-budget : cornersRefusal 4 16 (0 ∷ 4 ∷ 6 ∷ 6 ∷ []) 1 ≡ 7
-unfolding cornersRefusal planRefusal intervalsRefusal coreRefusal withoutBudget rowsOf
-no-budget = refl
+-- 2026-02: budgets 0, 4, 6, 6: core 1 is parked and not refused
+pub parked-core : cornersRefusal 4 16 (0 ∷ 4 ∷ 6 ∷ 6 ∷ []) 1 ≡ 0
+unfolding cornersRefusal planRefusal intervalsRefusal coreRefusal rowsOf
+parked-core = refl
 
--- and core 2 is not refused
+-- but at 1 request it is 13
+pub parked-request : rawRefusal 4 16 (0 ∷ 4 ∷ 6 ∷ 6 ∷ []) 1 1 ≡ 13
+unfolding rawRefusal planRefusal intervalsRefusal coreRefusal rowsOf
+parked-request = refl
+
+-- core 2 is not refused, as before
 pub some-budget : cornersRefusal 4 16 (0 ∷ 4 ∷ 6 ∷ 6 ∷ []) 2 ≡ 0
-unfolding cornersRefusal planRefusal intervalsRefusal coreRefusal withoutBudget rowsOf
+unfolding cornersRefusal planRefusal intervalsRefusal coreRefusal rowsOf
 some-budget = refl
 
 -- the file of the listing
@@ -56,7 +61,7 @@ repeating-shares = refl
 
 -- a placement at W = 0 is 10 there too
 pub repeating-none : placementRefusal (exampleMarked true) 3 25 0 2 ≡ 10
-unfolding placementRefusal planRefusal intervalsRefusal coreRefusal withoutBudget rowsOf
+unfolding placementRefusal planRefusal intervalsRefusal coreRefusal rowsOf
 repeating-none = refl
 
 -- what the file of the listing holds

@@ -42,7 +42,7 @@ fn write_rates(block: Block, place: &mut [u16]) -> CornersAnswer
     CornersAnswer::Count(block.count)
 }
 
-// The budgets of a one-interval question, judged with one interval of one period: 1, 2, 3, 5, 6, 7.
+// The budgets of a one-interval question, judged with one interval of one period: 1, 2, 3, 5, 6.
 fn one_interval(head: Head, budgets: &[u16], core: u8) -> Judgement
     ensures { λ r. ⌜ OneJudged (head .cores) (head .«per_period» .0) (now (budgets .entry)) core r ⌝ }
 {
@@ -53,7 +53,7 @@ fn one_interval(head: Head, budgets: &[u16], core: u8) -> Judgement
 // Raw stall at r: the most slots that the core waits in one period in which it makes r requests.
 // `head` has the number of cores and Q. `budgets`, lent for the call and only read, has one budget for each core, core 1 first.
 // `core`, counted from 1, is the core under analysis. `rate` is r.
-// Refused with 1, 2, 3, 5, 6, 7, and with 13 where r is above the core's budget.
+// Refused with 1, 2, 3, 5, 6, and with 13 where r is above the core's budget. A core with budget 0 is parked: at 0 it waits all of Q.
 pub fn raw_stall(head: Head, budgets: &[u16], core: u8, rate: Requests) -> RawAnswer
     ensures { λ r. ⌜ RawPromise (head .cores) (head .«per_period» .0) (now (budgets .entry)) core (rate .0) (rawFigures r) ⌝ }
 {
@@ -69,10 +69,11 @@ pub fn raw_stall(head: Head, budgets: &[u16], core: u8, rate: Requests) -> RawAn
     }
 }
 
-// Corners for one interval: the rates at which its curve starts, bends and ends, at most nine of them, rising from 0 to the core's budget.
+// Corners for one interval: the rates at which its curve starts, bends and ends, at most nine of them, rising from 0 to the core's budget;
+// the one rate 0 where the core is parked.
 // `head`, `budgets` and `core` are as for the raw stall. `place` is lent for the call: the rates are written from its front, as many as
 // the answer counts, and the rest of it is kept.
-// Refused with 1, 2, 3, 5, 6, 7, and with 11 where the place is shorter than the count; then all of the place is kept.
+// Refused with 1, 2, 3, 5, 6, and with 11 where the place is shorter than the count; then all of the place is kept.
 pub fn corners(head: Head, budgets: &[u16], core: u8, place: &mut [u16]) -> CornersAnswer
     ensures { λ r. ⌜ CornersPromise (head .cores) (head .«per_period» .0) (now (budgets .entry)) core (now (place .entry)) (cornersFigures r) (now (place .exit)) ⌝ }
 {

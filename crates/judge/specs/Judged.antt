@@ -32,7 +32,7 @@ IntervalJudged perPeriod soFar l sum r =
 abbrev pub PlanJudged : Plan → Judgement → Type 0
 PlanJudged p r = Judged (planRefusal p) (periods p) r
 
--- a plan and the core under analysis: 1 to 7
+-- a plan and the core under analysis: 1 to 6
 abbrev pub CoreJudged : Plan → ℕ → Judgement → Type 0
 CoreJudged p core r = Judged (planRefusal p before coreRefusal p core) (periods p) r
 

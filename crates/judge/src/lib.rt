@@ -1,11 +1,11 @@
-// The plan and the core of a question, judged: refusals 1 to 7 in document 01's order.
+// The plan and the core of a question, judged: refusals 1 to 6 in document 01's order.
 ghost use mathlib.Core.Path.{_≡_};
 ghost use Prim.Native.Nat.{_*_, _≤_};
 ghost use lib.ListN.{length};
 ghost use Rattle.units.specs.Given.{planOf};
 ghost use Rattle.judge.specs.Judged.{Judged, boundsRefusal, IntervalJudged, PlanJudged, CoreJudged};
 ghost use Rattle.meaning.specs.Plan.{sumOf, rows, mostCores};
-ghost use Rattle.meaning.specs.Refusals.{outside, intervalsRefusal, withoutBudget};
+ghost use Rattle.meaning.specs.Refusals.{outside, intervalsRefusal};
 use units::Head;
 use units::MadePeriods;
 use units::MadeSlots;
@@ -112,25 +112,7 @@ pub fn plan(head: Head, lengths: &[u16], budgets: &[u16]) -> Judgement
     intervals(head, lengths, budgets)
 }
 
-// Whether the core's budget is 0 in some interval.
-fn without_budget(head: Head, lengths: &[u16], budgets: &[u16], core: u8) -> bool
-    requires { ⌜ (length (now budgets) ≡ length (now lengths) * head .cores) × (1 ≤ core) × (core ≤ head .cores) ⌝ }
-    ensures { λ r. ⌜ r ≡ withoutBudget core (rows (planOf head (now (lengths .entry)) (now (budgets .entry)))) ⌝ }
-{
-    let m = head.cores as usize;
-    let count = lengths.len();
-    let at = core as usize - 1;
-    let mut i = 0;
-    while i < count {
-        if budgets[i * m + at] == 0 {
-            return true;
-        }
-        i += 1;
-    }
-    false
-}
-
-// A plan and the core under analysis: 1 to 5, then 6, then 7.
+// A plan and the core under analysis, which may be parked in any interval: 1 to 5, then 6.
 pub fn plan_and_core(head: Head, lengths: &[u16], budgets: &[u16], core: u8) -> Judgement
     ensures { λ r. ⌜ CoreJudged (planOf head (now (lengths .entry)) (now (budgets .entry))) core r ⌝ }
 {
@@ -140,9 +122,6 @@ pub fn plan_and_core(head: Head, lengths: &[u16], budgets: &[u16], core: u8) -> 
     };
     if outside(head.cores as usize, core as usize) {
         return Judgement::Refused(Refusal::CoreOutside);
-    }
-    if without_budget(head, lengths, budgets, core) {
-        return Judgement::Refused(Refusal::NoBudget);
     }
     Judgement::Sound(total)
 }

@@ -19,7 +19,7 @@ unfoldable pub sumOfSmaller : ℕ → List ℕ → ℕ
 sumOfSmaller r [] = 0
 sumOfSmaller r (b ∷ bs) = min r b + sumOfSmaller r bs
 
--- raw stall at r requests (004, equation 2): r below q: the sum over the other cores of the smaller of r and that core's budget; r = q: Q - q
+-- raw stall at r requests (004, equation 2): r below q: the sum over the other cores of the smaller of r and that core's budget; r = q: Q - q, so at 0 requests the whole Q where the core is parked
 unfoldable pub raw : ℕ → List ℕ → ℕ → ℕ → ℕ
 raw perPeriod row core r =
     cond (ltb r (budgetOf core row)) (sumOfSmaller r (others (core - 1) row)) (perPeriod - budgetOf core row)

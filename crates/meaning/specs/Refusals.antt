@@ -53,14 +53,9 @@ planRefusal p =
     before refusedIf (intervalsOutside (intervals p) || not (eqb (length (p .budgets)) (intervals p * p .cores))) 3
     before intervalsRefusal (p .perPeriod) 0 (p .lengths) (rows p)
 
--- that core's budget is 0 in some interval
-unfoldable pub withoutBudget : ℕ → List (List ℕ) → Bool
-withoutBudget core [] = false
-withoutBudget core (r ∷ rs) = eqb (budgetOf core r) 0 || withoutBudget core rs
-
--- 6, 7: core not 1..m; that core's budget is 0 in some interval
+-- 6: core not 1..m; a core without a budget in some interval is parked there, and 7 is not used
 unfoldable pub coreRefusal : Plan → ℕ → ℕ
-coreRefusal p core = refusedIf (outside 1 (p .cores) core) 6 before refusedIf (withoutBudget core (rows p)) 7
+coreRefusal p core = refusedIf (outside 1 (p .cores) core) 6
 
 -- 8: computing outside its bounds
 abbrev pub computingRefusal : ℕ → ℕ
@@ -83,19 +78,19 @@ abbrev pub oneInterval : ℕ → ℕ → List ℕ → Plan
 oneInterval m perPeriod budgets =
     record { cores = m; perPeriod = perPeriod; repeating = false; lengths = 1 ∷ []; budgets = budgets }
 
--- raw stall at r: 1, 2, 3, 5, 6, 7, 13 (r above the budget)
+-- raw stall at r: 1, 2, 3, 5, 6, 13 (r above the budget)
 unfoldable pub rawRefusal : ℕ → ℕ → List ℕ → ℕ → ℕ → ℕ
 rawRefusal m perPeriod budgets core r =
     planRefusal (oneInterval m perPeriod budgets)
     before coreRefusal (oneInterval m perPeriod budgets) core
     before refusedIf (ltb (budgetOf core budgets) r) 13
 
--- corners for one interval: 1, 2, 3, 5, 6, 7; 11 is judged with the corners
+-- corners for one interval: 1, 2, 3, 5, 6; 11 is judged with the corners
 unfoldable pub cornersRefusal : ℕ → ℕ → List ℕ → ℕ → ℕ
 cornersRefusal m perPeriod budgets core =
     planRefusal (oneInterval m perPeriod budgets) before coreRefusal (oneInterval m perPeriod budgets) core
 
--- placement and stall at a given W: 1 to 7, 9, 10, 11
+-- placement and stall at a given W: 1 to 6, 9, 10, 11
 unfoldable pub placementRefusal : Plan → ℕ → ℕ → ℕ → ℕ → ℕ
 placementRefusal p core requests n room =
     planRefusal p
@@ -104,7 +99,7 @@ placementRefusal p core requests n room =
     before horizonRefusal p n
     before roomRefusal (intervals p) room
 
--- span: 1 to 11; 12 is judged with the span
+-- span: 1 to 6, 8 to 11; 12 is judged with the span
 unfoldable pub spanRefusal : Plan → Workload → ℕ → ℕ
 spanRefusal p w room =
     planRefusal p

@@ -1,9 +1,9 @@
 -- Lists and sums: what is given for each index, what each member has, and the sum of a list.
-use mathlib.Core.Path.{_≡_, refl, ap, ap₂}
+use mathlib.Core.Path.{_≡_, refl, sym, ap, ap₂}
 use mathlib.Core.Logic.{⊎-elim}
 use mathlib.Core.List.{List, [], _∷_, _++_}
 use Prim.Native.Nat.{ℕ, zero, suc, _+_, _*_, _≤_, _<_}
-use native.Mathlib.Nat.{le-refl, le-of-suc-le, lt-irrefl, eq-or-lt-of-le, le-of-suc-le-suc}
+use native.Mathlib.Nat.{le-refl, le-of-suc-le, lt-irrefl, eq-or-lt-of-le, le-of-suc-le-suc, not-suc-le-zero}
 use native.Mathlib.Omega.{arith}
 use lib.ListN.{length, getD, drop}
 use Rattle.meaning.specs.Plan.{sumOf, All}
@@ -33,11 +33,27 @@ sum-list i zero f = refl
 sum-list i (suc n) f = ap (λ (m : ℕ). f i + m) (sum-list (suc i) n f)
 
 -- what is the same at each index sums to the same
-sum-same : (i n : ℕ) (f g : ℕ → ℕ) → ((j : ℕ) → i ≤ j → f j ≡ g j) → sumFrom i n f ≡ sumFrom i n g
+pub sum-same : (i n : ℕ) (f g : ℕ → ℕ)
+    → ((j : ℕ) → i ≤ j → j < i + n → f j ≡ g j)
+    → sumFrom i n f ≡ sumFrom i n g
 unfolding sumFrom
 sum-same i zero f g same = refl
 sum-same i (suc n) f g same =
-    ap₂ _+_ (same i (le-refl i)) (sum-same (suc i) n f g (λ j h. same j (le-of-suc-le h)))
+    ap₂ _+_ (same i (le-refl i) (omega arith)) (sum-same (suc i) n f g (λ j from to. same j (le-of-suc-le from) (omega (arith, to))))
+
+-- what is 0 at each index sums to 0
+pub sum-none : (i n : ℕ) (f : ℕ → ℕ) → ((j : ℕ) → i ≤ j → f j ≡ 0) → sumFrom i n f ≡ 0
+unfolding sumFrom
+sum-none i zero f none = refl
+sum-none i (suc n) f none = omega (arith, none i (le-refl i), sum-none (suc i) n f (λ j from. none j (le-of-suc-le from)))
+
+-- so what is 0 past the first m sums to the same as these
+pub sum-short : (i m n : ℕ) (f : ℕ → ℕ) → m ≤ n → ((j : ℕ) → i + m ≤ j → f j ≡ 0) → sumFrom i m f ≡ sumFrom i n f
+unfolding sumFrom
+sum-short i zero n f le none = sym (sum-none i n f (λ j from. none j (omega (arith, from))))
+sum-short i (suc m) zero f le none = absurd (not-suc-le-zero le)
+sum-short i (suc m) (suc n) f le none =
+    ap (λ (s : ℕ). f i + s) (sum-short (suc i) m n f (le-of-suc-le-suc le) (λ j from. none j (omega (arith, from))))
 
 -- a change by c at one index changes the sum by c
 pub sum-change : (i n k c : ℕ) (f g : ℕ → ℕ)
@@ -52,7 +68,7 @@ sum-change i (suc n) k c f g from to here other =
     ⊎-elim
     (λ e.
     let later =
-    sum-same (suc i) n g f (λ j h. other j (λ same. lt-irrefl j (omega (arith, h, e, same)))) in
+    sum-same (suc i) n g f (λ j from to. other j (λ same. lt-irrefl j (omega (arith, from, e, same)))) in
     omega (arith, ap g e, ap f e, here, later))
     (λ lt.
     let later = sum-change (suc i) n k c f g lt (omega (arith, to)) here other in

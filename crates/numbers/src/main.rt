@@ -33,24 +33,22 @@ fn tell_raw(budgets: &[u16], core: u8, rate: Requests) {
     }
 }
 
-// The raw stalls of a core at every rate up to a budget, with budgets 2, 2, 5, 7 and Q = 16.
-fn tell_raws(words: &[u8], core: u8, budget: u16) {
-    let budgets = [2u16, 2, 5, 7];
+// The raw stalls of a core at every rate up to its budget, with Q = 16.
+fn tell_raws(words: &[u8], budgets: &[u16], core: u8, budget: u16) {
     say(words);
     let mut rate: u16 = 0;
     while rate < budget {
-        tell_raw(&budgets, core, Requests(rate as u32));
+        tell_raw(budgets, core, Requests(rate as u32));
         rate += 1;
     }
-    tell_raw(&budgets, core, Requests(budget as u32));
+    tell_raw(budgets, core, Requests(budget as u32));
     say(b"\n");
 }
 
-// The corners of a core in a place that has just room for them, with budgets 2, 2, 5, 7 and Q = 16.
-fn tell_corners(words: &[u8], core: u8, rates: &mut [u16]) {
-    let budgets = [2u16, 2, 5, 7];
+// The corners of a core in a place that has just room for them, with Q = 16.
+fn tell_corners(words: &[u8], budgets: &[u16], core: u8, rates: &mut [u16]) {
     say(words);
-    match interval::corners(four_cores(false), &budgets, core, rates) {
+    match interval::corners(four_cores(false), budgets, core, rates) {
         CornersAnswer::Count(_) => tell_rates(rates),
         CornersAnswer::Refused(refusal) => tell_refused(refusal),
     }
@@ -129,6 +127,59 @@ fn placement_of_listing(words: &[u8], periods: u16) {
         Requests(25),
         Periods(periods),
         &mut placed,
+    );
+}
+
+// A span of core 1 on a plan in which it is parked first and last, repeating or plain.
+fn span_of_parked(words: &[u8], repeating: bool, workload: Workload) {
+    let lengths = [2u16, 3, 1];
+    let budgets = [0u16, 4, 6, 6, 2, 2, 5, 7, 0, 5, 5, 6];
+    let mut placement = [9u32; 3];
+    tell_span(
+        words,
+        four_cores(repeating),
+        &lengths,
+        &budgets,
+        workload,
+        &mut placement,
+    );
+}
+
+// 2 requests of core 1 placed at W on that plan.
+fn placement_of_parked(words: &[u8], periods: u16) {
+    let lengths = [2u16, 3, 1];
+    let budgets = [0u16, 4, 6, 6, 2, 2, 5, 7, 0, 5, 5, 6];
+    let mut placed = [9u32; 3];
+    tell_placement(
+        words,
+        four_cores(false),
+        &lengths,
+        &budgets,
+        1,
+        Requests(2),
+        Periods(periods),
+        &mut placed,
+    );
+}
+
+// Core 1 is parked in all 5 periods, and core 2 has all of Q.
+fn parked_all_the_way() {
+    let words = b"parked all the way:";
+    let lengths = [5u16];
+    let budgets = [0u16, 16];
+    let mut placement = [0u32; 1];
+    let head = Head {
+        cores: 2,
+        per_period: Slots(16),
+        repeating: false,
+    };
+    tell_span(
+        words,
+        head,
+        &lengths,
+        &budgets,
+        work(1, 1, 0, 5),
+        &mut placement,
     );
 }
 
@@ -246,21 +297,20 @@ fn longest_file(words: &[u8], place: &mut [u8]) {
     }
 }
 
-// Raw stalls, corners, and the refusals of budgets.
+// Raw stalls, corners, and the refusal of budgets.
 fn curves() {
+    let budgets = [2u16, 2, 5, 7];
     let mut two = [0u16; 2];
     let mut three = [0u16; 3];
     let mut four = [0u16; 4];
-    tell_raws(b"P1 core 1, raw:", 1, 2);
-    tell_corners(b"P1 core 1, corners:", 1, &mut two);
-    tell_raws(b"P2 core 3, raw:", 3, 5);
-    tell_corners(b"P2 core 3, corners:", 3, &mut three);
-    tell_raws(b"P3 core 4, raw:", 4, 7);
-    tell_corners(b"P3 core 4, corners:", 4, &mut four);
+    tell_raws(b"P1 core 1, raw:", &budgets, 1, 2);
+    tell_corners(b"P1 core 1, corners:", &budgets, 1, &mut two);
+    tell_raws(b"P2 core 3, raw:", &budgets, 3, 5);
+    tell_corners(b"P2 core 3, corners:", &budgets, 3, &mut three);
+    tell_raws(b"P3 core 4, raw:", &budgets, 4, 7);
+    tell_corners(b"P3 core 4, corners:", &budgets, 4, &mut four);
     say(b"budgets 2, 2, 5, 6 with Q 16:");
     tell_raw(&[2u16, 2, 5, 6], 1, Requests(0));
-    say(b"budgets 0, 4, 6, 6, core 1:");
-    tell_raw(&[0u16, 4, 6, 6], 1, Requests(0));
     say(b"budgets 0, 4, 6, 6, core 2, raw at 4:");
     tell_raw(&[0u16, 4, 6, 6], 2, Requests(4));
     say(b"\n");
@@ -303,6 +353,31 @@ fn cycles() {
     span_of_one(b"one period that repeats, P5:", true, 1, work(3, 40, 35, 9));
 }
 
+// Core 1 parked in some intervals, in all of them, and where the plan repeats (2026-02); a place left as it was would show a 9.
+fn parked() {
+    let budgets = [0u16, 4, 6, 6];
+    let mut one = [9u16; 1];
+    let mut two = [9u16; 2];
+    tell_raws(b"parked, raw:", &budgets, 1, 0);
+    say(b"parked, raw at 1:");
+    tell_raw(&budgets, 1, Requests(1));
+    tell_corners(b"parked, corners:", &budgets, 1, &mut one);
+    tell_corners(b"core 2 beside it, corners:", &budgets, 2, &mut two);
+    span_of_parked(b"parked, E 1:", false, work(1, 1, 0, 6));
+    span_of_parked(b"parked, E 17:", false, work(1, 17, 0, 6));
+    span_of_parked(b"parked, E 1, 2 requests:", false, work(1, 1, 2, 6));
+    span_of_parked(b"parked, E 10, 1 request:", false, work(1, 10, 1, 6));
+    span_of_parked(b"parked, E 1, 6 requests:", false, work(1, 1, 6, 6));
+    placement_of_parked(b"parked, at W = 1:", 1);
+    placement_of_parked(b"parked, at W = 2:", 2);
+    placement_of_parked(b"parked, at W = 3:", 3);
+    placement_of_parked(b"parked, at W = 5:", 5);
+    placement_of_parked(b"parked, at W = 6:", 6);
+    let last = Periods::MAX;
+    span_of_parked(b"parked, repeating:", true, work(1, 20, 4, last));
+    parked_all_the_way();
+}
+
 // Computing, requests and the length of a file, at their limits and one past them.
 fn limits() {
     let last = Periods::MAX;
@@ -329,5 +404,6 @@ fn main() {
     rounded_once();
     unequal_slopes();
     cycles();
+    parked();
     limits();
 }

@@ -10,9 +10,14 @@ use lib.Dec.{eqb, leb}
 use borrow.Author.Tests.{eq-eqb, ne-eqb}
 use Rattle.meaning.specs.Curve.{Corner, Curve, Rising, Falling}
 use Rattle.number_laws.specs.Order.{le-or-lt, eq-or-ne}
+use Rattle.number_laws.specs.Lists.{sumFrom}
 use Rattle.curve_laws.specs.Price.{Passed}
 use Rattle.curve_laws.specs.PassedCorners.{passed-more}
 use Rattle.curve_laws.specs.FilledToCorner.{Steep, Beyond, Ahead, FirstIs, Follows}
+
+-- the stall of n intervals before any request is placed: each share times the base of its interval, its stall at 0 requests
+abbrev pub baseStall : ℕ → (ℕ → ℕ) → (ℕ → ℕ) → ℕ
+baseStall n share base = sumFrom 0 n (λ i. share i * base i)
 
 -- a segment in the order of filling: its interval, counted from 0, its run of rates and its rise of stall
 pub record Pick : Type 0 where

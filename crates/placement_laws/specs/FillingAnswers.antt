@@ -9,11 +9,11 @@ use Rattle.meaning.specs.Fraction.{Fraction, Proper, _=ᶠ_}
 use Rattle.meaning.specs.Plan.{sumOf}
 use Rattle.meaning.specs.Curve.{Curve, Concave}
 use Rattle.meaning.specs.Placement.{Part, total, Answered}
-use Rattle.number_laws.specs.Lists.{listFrom, sumFrom, list-length, sum-list}
+use Rattle.number_laws.specs.Lists.{listFrom, sumFrom, list-length, sum-list, sum-none}
 use Rattle.curve_laws.specs.Price.{here}
 use Rattle.curve_laws.specs.Certificate.{Certificate}
 use Rattle.placement_laws.specs.CertifiedPlacement.{Certified, excesses, total-touch, total-proper, certified-answered}
-use Rattle.placement_laws.specs.Filling.{Pick, Order, Walk, walk, fill}
+use Rattle.placement_laws.specs.Filling.{baseStall, Pick, Order, Walk, raised, walk, fill}
 use Rattle.placement_laws.specs.FillingCertified.{Outcome, stallOf, filled}
 
 -- certificates for each index certify the lists
@@ -32,9 +32,13 @@ excesses-from excess share curve i zero = refl
 excesses-from excess share curve i (suc n) =
     ap (λ (m : ℕ). share i * excess i + m) (excesses-from excess share curve (suc i) n)
 
--- the stall that a walk finds, from a whole stall on: what was filled whole, and a part of the segment where the requests ran out
-abbrev pub walkStall : ℕ → Walk → Fraction
-walkStall stall w = record { num = (stall + w .whole) * w .run + w .left * w .rise; den = w .run }
+-- the stall that a walk finds: what was filled whole, and a part of the segment where the requests ran out
+abbrev pub walkStall : Walk → Fraction
+walkStall w = record { num = w .whole * w .run + w .left * w .rise; den = w .run }
+
+-- the stall of n intervals: that of the bases, and what filling by the order adds
+abbrev pub filledStall : ℕ → (ℕ → ℕ) → (ℕ → ℕ) → List Pick → ℕ → Fraction
+filledStall n share base o requests = walkStall (raised (baseStall n share base) (walk share o requests))
 
 module _ (n : ℕ) (share : ℕ → ℕ) (curve : ℕ → Curve) (sound : (i : ℕ) → Concave (curve i)) (o : List Pick) (requests : ℕ)
     (order : Order curve o) (ends : (i : ℕ) → n ≤ i → curve i .rest ≡ []) where
@@ -51,13 +55,8 @@ module _ (n : ℕ) (share : ℕ → ℕ) (curve : ℕ → Curve) (sound : (i : �
       filled n share curve sound o curve requests (λ j. 0) (λ i. here) order ends
       (λ i. sym (ap (λ (m : ℕ). share i * m) (sound i .starts) ∙ mul-zero (share i)))
 
-  none-placed : (i m : ℕ) → sumFrom i m (λ j. 0) ≡ 0
-  unfolding sumFrom
-  none-placed i zero = refl
-  none-placed i (suc m) = zero-add (sumFrom (suc i) m (λ j. 0)) ∙ none-placed (suc i) m
-
   all-requests : sumFrom 0 n (λ j. 0) + requests ≡ requests
-  all-requests = ap (λ (m : ℕ). m + requests) (none-placed 0 n) ∙ zero-add requests
+  all-requests = ap (λ (m : ℕ). m + requests) (sum-none 0 n (λ j. 0) (λ j from. refl)) ∙ zero-add requests
 
   certified : Certified (walk share o requests .rise) (walk share o requests .run) (outcome .last) (outcome .excess) 0 partList filledList
   certified =
@@ -99,7 +98,7 @@ module _ (n : ℕ) (share : ℕ → ℕ) (curve : ℕ → Curve) (sound : (i : �
   walk-proper = outcome .positive
 
   -- the total stall of the placement has the value that the walk finds
-  pub filled-stall : total partList filledList =ᶠ walkStall (stallOf n share curve sound curve) (walk share o requests)
+  pub filled-stall : total partList filledList =ᶠ filledStall n share (λ i. curve i .first .stall) o requests
   filled-stall =
       let w = walk share o requests in
       let touch = total-touch (w .rise) (w .run) (outcome .last) (outcome .excess) 0 partList filledList certified in

@@ -14,7 +14,7 @@ use Rattle.curve_laws.specs.Price.{Along, Tight}
 use Rattle.curve_laws.specs.PassedCorners.{passed-rising, passed-map, passed-falling}
 use Rattle.curve_laws.specs.Certificate.{Certificate}
 use Rattle.curve_laws.specs.FilledToCorner.{Stage, At, Ahead, excessAt, stage-tight, corner-certificate, segment-certificate, Follows, beyond-follows, along-heads}
-use Rattle.placement_laws.specs.Filling.{Pick, steppedFrom, advance, Nothing, next-below, advance-nothing, Picked, Next, Order, levelRise, levelRun, levelAt, Reached, Walk, walk, raised, more, fill, picked-run, picked-steep, pass, follows, follows-end, advance-same, advance-other, gained}
+use Rattle.placement_laws.specs.Filling.{baseStall, Pick, steppedFrom, advance, Nothing, next-below, advance-nothing, Picked, Next, Order, levelRise, levelRun, levelAt, Reached, Walk, walk, raised, more, fill, picked-run, picked-steep, pass, follows, follows-end, advance-same, advance-other, gained}
 
 -- a segment where the requests run out: filled past its lower end
 stop-certificate : (s : Pick) (w left : ℕ) (c : Curve) (t : Corner) (rest : List Corner)
@@ -74,7 +74,7 @@ module _ (n : ℕ) (share : ℕ → ℕ) (curve : ℕ → Curve) (sound : (i : �
 
   -- the stall of all intervals filled up to these corners
   abbrev pub stallOf : (ℕ → Curve) → ℕ
-  stallOf now = sumFrom 0 n (λ i. share i * now i .first .stall)
+  stallOf now = baseStall n share (λ i. now i .first .stall)
 
   -- a walk and the placement that it fills, with the certificates, for so many requests, from a stall on
   pub record Outcome (requests stall : ℕ) (x : ℕ → ℕ) (w : Walk) : Type 0 where

@@ -2,24 +2,23 @@
 use mathlib.Core.Path.{_≡_, refl, sym, ap, _∙_, subst, fun-ext}
 use mathlib.Core.Logic.{_⊎_, inl, inr, ⊎-elim}
 use mathlib.Core.List.{List, [], _∷_}
-use Prim.Native.Nat.{ℕ, zero, suc, _+_, _-_, _*_, _≤_, _<_, zero-le}
+use Prim.Native.Nat.{ℕ, suc, _+_, _*_, _≤_, _<_, zero-le}
 use native.Mathlib.Nat.{lt-of-lt-of-le, lt-irrefl, zero-add, add-zero, suc-inj}
 use native.Mathlib.Omega.{arith}
 use lib.ListN.{length, getD}
 use Rattle.meaning.specs.Fraction.{Fraction, _=ᶠ_, roundUp}
 use Rattle.meaning.specs.Plan.{Plan, sumOf, intervals, rows, budgetOf}
-use Rattle.meaning.specs.Curve.{Curve, raw, others, EnvelopeOf, Concave}
+use Rattle.meaning.specs.Curve.{Curve, raw, EnvelopeOf, Concave}
 use Rattle.meaning.specs.Placement.{Part, PartsOf, total, GreatestStall, AnsweredWith}
 use Rattle.number_laws.specs.Order.{le-or-lt}
 use Rattle.number_laws.specs.Fractions.{round-up-same}
-use Rattle.number_laws.specs.Lists.{listFrom, sumFrom, all-at}
-use Rattle.plan_laws.specs.SoundPlan.{SoundPlan, SoundCore, plan-whole}
-use Rattle.curve_laws.specs.EnvelopeConcave.{first-on}
-use Rattle.curve_laws.specs.RawStall.{raw-rises, raw-below, smaller-none}
+use Rattle.number_laws.specs.Lists.{listFrom, sum-same, all-at}
+use Rattle.plan_laws.specs.SoundPlan.{SoundPlan, plan-whole}
+use Rattle.curve_laws.specs.EnvelopeConcave.{envelope-start}
+use Rattle.curve_laws.specs.RawStall.{raw-rises}
 use Rattle.curve_laws.specs.CornerStack.{envelope-exists}
-use Rattle.placement_laws.specs.Filling.{Pick, Order, walk, fill}
-use Rattle.placement_laws.specs.FillingCertified.{stallOf}
-use Rattle.placement_laws.specs.FillingAnswers.{walkStall, filled-answered, filled-stall, filled-proper, walk-proper}
+use Rattle.placement_laws.specs.Filling.{baseStall, Pick, Order, raised, walk, fill}
+use Rattle.placement_laws.specs.FillingAnswers.{walkStall, filledStall, filled-answered, filled-stall, filled-proper, walk-proper}
 use Rattle.placement_laws.specs.OrderMerged.{none, within, within-inside, within-after, orderTo, order-to}
 use Rattle.placement_laws.specs.StallUnique.{row-concave}
 
@@ -52,6 +51,10 @@ abbrev pub CurvesOf : Plan → ℕ → (ℕ → Curve) → Type 0
 CurvesOf p core curve =
     (i : ℕ) → i < intervals p → EnvelopeOf (p .perPeriod) core (getD (rows p) i []) (curve i)
 
+-- the base of an interval, counted from 0: its raw stall at 0 requests, which is Q where the core is parked and else 0
+abbrev pub baseOf : Plan → ℕ → ℕ → ℕ
+baseOf p core i = raw (p .perPeriod) (getD (rows p) i []) core 0
+
 module _ (p : Plan) (core : ℕ) (sound : SoundPlan p) where
   row-whole : (i : ℕ) → i < intervals p → sumOf (getD (rows p) i []) ≡ p .perPeriod
   row-whole i h =
@@ -73,43 +76,20 @@ module _ (p : Plan) (core : ℕ) (sound : SoundPlan p) where
       (row-concave (p .perPeriod) core (getD (rows p) i []) (curve i) (row-whole i inside) (env i inside)))
       (le-or-lt (intervals p) i)
 
-  -- a curve starts at stall 0, where the core has a budget
-  starts-at-none : (curve : ℕ → Curve)
-      → SoundCore p core
+  -- a curve starts at the raw stall at 0 requests
+  starts-at-base : (curve : ℕ → Curve)
       → CurvesOf p core curve
       → (i : ℕ)
-      → within 0 (intervals p) curve i .first .stall ≡ 0
-  starts-at-none curve budgets env i =
-      ⊎-elim
-      (λ past. ap (λ (c : Curve). c .first .stall) (within-after 0 (intervals p) i curve past))
-      (λ inside.
-      let r = getD (rows p) i [] in
-      let e = env i inside in
-      let some : 1 ≤ budgetOf core r =
-      all-at (λ (row : List ℕ). 1 ≤ budgetOf core row) (rows p) [] i (budgets .budgets)
-      (subst (λ (n : ℕ). i < n) (sym (sound .rowsCount)) inside) in
+      → i < intervals p
+      → within 0 (intervals p) curve i .first .stall ≡ baseOf p core i
+  starts-at-base curve env i inside =
+      let row = getD (rows p) i [] in
       ap (λ (c : Curve). c .first .stall) (within-inside 0 (intervals p) i curve zero-le inside)
-      ∙ first-on (raw (p .perPeriod) r core) (curve i .first) (curve i .rest) (e .onRaw)
-      ∙ ap (raw (p .perPeriod) r core) (e .starts)
-      ∙ raw-below (p .perPeriod) r core 0 some
-      ∙ smaller-none (others (core - 1) r))
-      (le-or-lt (intervals p) i)
+      ∙ envelope-start (raw (p .perPeriod) row core) (budgetOf core row) (curve i) (env i inside)
 
-  no-stall : (n : ℕ) (share : ℕ → ℕ) (curve : ℕ → Curve) (i : ℕ)
-      → ((j : ℕ) → curve j .first .stall ≡ 0)
-      → sumFrom i n (λ j. share j * curve j .first .stall) ≡ 0
-  unfolding sumFrom
-  no-stall zero share curve i all = refl
-  no-stall (suc n) share curve i all =
-      omega (
-        arith,
-        ap (λ (m : ℕ). share i * m) (all i),
-        no-stall n share curve (suc i) all,
-      )
-
-  module _ (budgets : SoundCore p core) (curve : ℕ → Curve) (env : CurvesOf p core curve) (o : List Pick)
-      (order : Order (within 0 (intervals p) curve) o) (ws : List ℕ) (many : length ws ≡ intervals p) (requests : ℕ) (share : ℕ → ℕ)
-      (given : (i : ℕ) → i < intervals p → share i ≡ getD ws i 0) where
+  module _ (curve : ℕ → Curve) (env : CurvesOf p core curve) (o : List Pick) (order : Order (within 0 (intervals p) curve) o)
+      (ws : List ℕ) (many : length ws ≡ intervals p) (requests : ℕ) (share base : ℕ → ℕ)
+      (given : (i : ℕ) → i < intervals p → share i ≡ getD ws i 0) (based : (i : ℕ) → i < intervals p → base i ≡ baseOf p core i) where
     -- the intervals as parts, each with its share and its curve
     parts : List Part
     parts = listFrom 0 (intervals p) (λ j. record { share = share j; curve = within 0 (intervals p) curve j })
@@ -133,6 +113,14 @@ module _ (p : Plan) (core : ℕ) (sound : SoundPlan p) where
     ends : (i : ℕ) → intervals p ≤ i → within 0 (intervals p) curve i .rest ≡ []
     ends i past = ap (λ (c : Curve). c .rest) (within-after 0 (intervals p) i curve past)
 
+    -- the stall before the filling is that of the bases
+    before-filling : baseStall (intervals p) share (λ i. within 0 (intervals p) curve i .first .stall) ≡ baseStall (intervals p) share base
+    before-filling =
+        sum-same 0 (intervals p) _ _
+        (λ i from to.
+        let inside : i < intervals p = omega (arith, to) in
+        ap (λ (m : ℕ). share i * m) (starts-at-base curve env i inside ∙ sym (based i inside)))
+
     -- filling by the order gives the answered placement, and the walk its stall
     pub answered-by-order :
         AnsweredWith
@@ -141,13 +129,11 @@ module _ (p : Plan) (core : ℕ) (sound : SoundPlan p) where
         requests
         ws
         (listFrom 0 (intervals p) (fill share o requests (λ j. 0)))
-        (roundUp (walkStall 0 (walk share o requests)))
+        (roundUp (filledStall (intervals p) share base o requests))
     unfolding parts
     answered-by-order =
         let n = intervals p in
         let concave = curves-concave curve env in
-        let none-first : stallOf n share (within 0 n curve) concave (within 0 n curve) ≡ 0 =
-        no-stall n share (within 0 n curve) 0 (starts-at-none curve budgets env) in
         let value = filled-stall n share (within 0 n curve) concave o requests order ends in
         record {
           parts = parts;
@@ -157,12 +143,12 @@ module _ (p : Plan) (core : ℕ) (sound : SoundPlan p) where
               sym
               (round-up-same
               _
-              (walkStall 0 (walk share o requests))
+              (filledStall n share base o requests)
               (filled-proper n share (within 0 n curve) concave o requests order ends)
               (walk-proper n share (within 0 n curve) concave o requests order ends)
               (subst
-              (λ (m : ℕ). total parts (listFrom 0 n (fill share o requests (λ j. 0))) =ᶠ walkStall m (walk share o requests))
-              none-first
+              (λ (m : ℕ). total parts (listFrom 0 n (fill share o requests (λ j. 0))) =ᶠ walkStall (raised m (walk share o requests)))
+              before-filling
               value));
         }
 
@@ -176,7 +162,7 @@ within-twice n curve =
     (le-or-lt n i)
 
 -- the answered placement and its stall, by the order of all segments merged interval by interval
-pub answered-in-order : (p : Plan) (core : ℕ) (sound : SoundPlan p) (budgets : SoundCore p core) (curve : ℕ → Curve)
+pub answered-in-order : (p : Plan) (core : ℕ) (sound : SoundPlan p) (curve : ℕ → Curve)
     → CurvesOf p core curve
     → (ws : List ℕ)
     → length ws ≡ intervals p
@@ -191,12 +177,10 @@ pub answered-in-order : (p : Plan) (core : ℕ) (sound : SoundPlan p) (budgets :
     (intervals p)
     (fill (λ i. getD ws i 0) (orderTo (intervals p) (within 0 (intervals p) curve)) requests (λ j. 0)))
     (roundUp
-    (walkStall
-    0
-    (walk (λ i. getD ws i 0) (orderTo (intervals p) (within 0 (intervals p) curve)) requests)))
-answered-in-order p core sound budgets curve env ws many requests =
+    (filledStall (intervals p) (λ i. getD ws i 0) (baseOf p core) (orderTo (intervals p) (within 0 (intervals p) curve)) requests))
+answered-in-order p core sound curve env ws many requests =
     let n = intervals p in
-    answered-by-order p core sound budgets curve env (orderTo n (within 0 n curve))
+    answered-by-order p core sound curve env (orderTo n (within 0 n curve))
     (subst
     (λ (now : ℕ → Curve). Order now (orderTo n (within 0 n curve)))
     (within-twice n curve)
@@ -205,6 +189,8 @@ answered-in-order p core sound budgets curve env ws many requests =
     many
     requests
     (λ i. getD ws i 0)
+    (baseOf p core)
+    (λ i h. refl)
     (λ i h. refl)
 
 -- an answered placement is one of greatest stall
@@ -220,7 +206,7 @@ answered-greatest p core requests ws xs s h =
       value = refl;
     }
 
-module _ (p : Plan) (core : ℕ) (sound : SoundPlan p) (budgets : SoundCore p core) where
+module _ (p : Plan) (core : ℕ) (sound : SoundPlan p) where
   -- the envelope of interval i, where there is such an interval
   chosen : (i : ℕ) → (intervals p ≤ i) ⊎ (i < intervals p) → Curve
   chosen i (inl past) = none
@@ -251,8 +237,8 @@ module _ (p : Plan) (core : ℕ) (sound : SoundPlan p) (budgets : SoundCore p co
       let share : ℕ → ℕ = λ i. getD ws i 0 in
       let o = orderTo (intervals p) (within 0 (intervals p) curveFor) in (
         listFrom 0 (intervals p) (fill share o requests (λ j. 0)),
-        roundUp (walkStall 0 (walk share o requests)),
-        answered-in-order p core sound budgets curveFor curves-given ws many requests,
+        roundUp (filledStall (intervals p) share (baseOf p core) o requests),
+        answered-in-order p core sound curveFor curves-given ws many requests,
       )
 
   -- and a greatest stall

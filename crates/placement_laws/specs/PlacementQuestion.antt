@@ -18,7 +18,7 @@ use Rattle.placement_laws.specs.PlacementExists.{answered-exists}
 -- a placement question that is not refused
 pub record SoundPlacement (p : Plan) (core requests n room : ℕ) : Type 0 where
   pub plan : SoundPlan p
-  pub budgets : SoundCore p core
+  pub analysed : SoundCore p core
   pub fewRequests : requests ≤ mostWork
   pub positive : 1 ≤ n
   pub inLimit : n ≤ mostSpan p
@@ -38,7 +38,7 @@ sound-placement p core requests n room e =
     let within = inside 1 (mostSpan p) n (not-broken (outside 1 (mostSpan p) n) 9 (first-zero (horizonRefusal p n) fourth later)) in
     record {
       plan = sound-plan p (first-zero (planRefusal p) first e);
-      budgets = sound-core p core (first-zero (coreRefusal p core) second cores);
+      analysed = sound-core p core (first-zero (coreRefusal p core) second cores);
       fewRequests = inside 0 mostWork requests (not-broken (outside 0 mostWork requests) 8 (first-zero (requestsRefusal requests) third asked)) .1;
       positive = within .0;
       inLimit = within .1;
@@ -77,7 +77,7 @@ placement-answer-exists p core requests n place =
     (λ number. (record { refused = number; stall = 0 }, place, (refl, refl)))
     (λ e.
     let sound = sound-placement p core requests n (length place) e in
-    let found = answered-exists p core (sound .plan) (sound .budgets) requests (sharesAt p n) (plan-sharing p (sound .plan) .many n) in (
+    let found = answered-exists p core (sound .plan) requests (sharesAt p n) (plan-sharing p (sound .plan) .many n) in (
       record { refused = 0; stall = found .1 },
       written (found .0) place,
       (found .0, found .1, found .2, refl, refl),

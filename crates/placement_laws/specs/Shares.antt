@@ -11,10 +11,10 @@ use lib.Arith.{digits-div, digits-mod}
 use borrow.Author.Tests.{lt-ltb, le-ltb}
 use Rattle.meaning.specs.Plan.{Plan, sumOf, intervals, periods, mostSpan, intervalOf, intervalAt}
 use Rattle.meaning.specs.Placement.{shares, sharesAt}
-use Rattle.meaning.specs.Refusals.{planRefusal, coreRefusal}
+use Rattle.meaning.specs.Refusals.{planRefusal}
 use Rattle.meaning.specs.Again.{longer, zerosFor}
 use Rattle.number_laws.specs.Order.{le-or-lt}
-use Rattle.plan_laws.specs.SoundPlan.{SoundPlan, sound-plan, plan-sound, SoundCore, sound-core, core-sound, some-periods}
+use Rattle.plan_laws.specs.SoundPlan.{SoundPlan, sound-plan, plan-sound, some-periods}
 
 -- one more for member j
 unfoldable pub raisedAt : ℕ → List ℕ → List ℕ
@@ -273,14 +273,10 @@ plan-first-cycle p w sound = first-cycle p (some-periods p sound) (p .repeating)
 pub plan-starts-over : (p : Plan) (w : ℕ) → SoundPlan p → w ≤ mostSpan p → sharesAt (marked true p) w ≡ sharesAt p w
 plan-starts-over p w sound = starts-over p (some-periods p sound) (p .repeating) w
 
--- which is as sound, for each of its cores
+-- which is as sound
 pub marked-sound : (repeating : Bool) (p : Plan) → SoundPlan p → SoundPlan (marked repeating p)
 unfolding planRefusal
 marked-sound repeating p sound = sound-plan (marked repeating p) (plan-sound p sound)
-
-pub marked-core : (repeating : Bool) (p : Plan) (core : ℕ) → SoundCore p core → SoundCore (marked repeating p) core
-unfolding coreRefusal
-marked-core repeating p core budgets = sound-core (marked repeating p) core (core-sound p core budgets)
 
 -- W = k·T is k full cycles and no part
 pub plan-full-cycles : (p : Plan) (k : ℕ)

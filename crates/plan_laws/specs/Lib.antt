@@ -1,3 +1,4 @@
 pub mod RefusalOrder
 pub mod SoundPlan
 pub mod RefusedZeros
+pub mod SevenUnused

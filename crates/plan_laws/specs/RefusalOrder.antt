@@ -2,7 +2,7 @@
 use mathlib.Core.Path.{_≡_, refl}
 use mathlib.Core.Bool.{Bool, true, false, true≢false, false≢true, not, _&&_, _||_}
 use mathlib.Core.Logic.{⊎-elim}
-use Prim.Native.Nat.{ℕ, zero, suc, _≤_, _<_, zero-le}
+use Prim.Native.Nat.{ℕ, zero, suc, _≤_, _<_}
 use native.Mathlib.Omega.{arith}
 use lib.Dec.{leb, ltb}
 use borrow.Author.Tests.{leb-true, not-false, le-leb, lt-leb, lt-ltb, le-ltb}
@@ -20,15 +20,15 @@ pub second-zero : (a b : ℕ) → a before b ≡ 0 → b ≡ 0
 second-zero zero b e = e
 second-zero (suc a) b e = absurd (omega arith)
 
--- a refusal is at most what both of two are at most
-pub first-bounded : (m a b : ℕ) → a ≤ m → b ≤ m → (a before b) ≤ m
-first-bounded m zero b ha hb = hb
-first-bounded m (suc a) b ha hb = ha
+-- what holds of both of two refusals holds of the one that is given
+pub first-has : (P : ℕ → Type 0) (a b : ℕ) → P a → P b → P (a before b)
+first-has P zero b ha hb = hb
+first-has P (suc a) b ha hb = ha
 
--- the refusal of a rule, broken or not, is at most its number
-pub rule-bounded : (broken : Bool) (m n : ℕ) → n ≤ m → refusedIf broken n ≤ m
-rule-bounded true m n h = h
-rule-bounded false m n h = zero-le
+-- what holds of 0 and of a rule's number holds of its refusal, broken or not
+pub rule-has : (P : ℕ → Type 0) (broken : Bool) (n : ℕ) → P 0 → P n → P (refusedIf broken n)
+rule-has P true n none some = some
+rule-has P false n none some = none
 
 -- where neither of two is given, no refusal is given
 pub both-zero : {a b : ℕ} → a ≡ 0 → b ≡ 0 → a before b ≡ 0

@@ -2,18 +2,18 @@
 use mathlib.Core.Path.{_≡_, refl, ap}
 use mathlib.Core.Bool.{Bool, true, false, not, _||_}
 use mathlib.Core.List.{List, [], _∷_}
-use Prim.Native.Nat.{ℕ, zero, suc, _+_, _-_, _*_, _≤_, _<_, zero-le}
-use native.Mathlib.Nat.{le-refl, le-of-suc-le-suc, not-suc-le-zero, zero-mul, suc-mul, add-comm}
+use Prim.Native.Nat.{ℕ, zero, suc, _+_, _*_, _≤_, _<_, zero-le}
+use native.Mathlib.Nat.{le-refl, lt-irrefl, le-of-suc-le-suc, not-suc-le-zero, zero-mul, suc-mul, add-comm}
 use native.Mathlib.Numerals.{add-one}
 use native.Mathlib.Omega.{arith}
 use lib.ListN.{length, getD, take, drop, length-take, length-drop}
-use lib.Seq.{drop-drop, drop-cons, getD-take, getD-drop}
+use lib.Seq.{drop-drop, drop-cons}
 use lib.Dec.{ltb, eqb}
 use borrow.Author.Tests.{ltb-false, eqb-true, eqb-false, not-false, le-ltb, eq-eqb, ne-eqb}
-use Rattle.meaning.specs.Plan.{Plan, sumOf, intervals, periods, spanLimit, mostSpan, rowsOf, rows, budgetOf, All, mostCores, mostPerPeriod, mostIntervals, mostPeriods}
-use Rattle.meaning.specs.Refusals.{refusedIf, _before_, outside, coresRefusal, perPeriodRefusal, intervalsOutside, intervalRefusal, intervalsRefusal, planRefusal, withoutBudget, coreRefusal}
+use Rattle.meaning.specs.Plan.{Plan, Workload, sumOf, intervals, periods, spanLimit, mostSpan, rowsOf, rows, All, mostCores, mostPerPeriod, mostIntervals, mostPeriods, mostWork}
+use Rattle.meaning.specs.Refusals.{refusedIf, _before_, outside, coresRefusal, perPeriodRefusal, intervalsOutside, intervalRefusal, intervalsRefusal, planRefusal, coreRefusal, spanRefusal}
 use Rattle.meaning.specs.Placement.{total}
-use Rattle.plan_laws.specs.RefusalOrder.{first-zero, second-zero, first-bounded, rule-bounded, both-zero, not-broken, not-refused, or-first, or-second, neither, inside, not-outside}
+use Rattle.plan_laws.specs.RefusalOrder.{first-zero, second-zero, first-has, rule-has, both-zero, not-broken, not-refused, or-first, or-second, neither, inside, not-outside}
 
 -- there are as many rows as intervals
 pub rows-count : (m : ℕ) (lengths budgets : List ℕ) → length (rowsOf m lengths budgets) ≡ length lengths
@@ -201,53 +201,22 @@ most-span-few p sound = few (p .repeating)
     few true = le-refl mostPeriods
     few false = sound .total
 
--- what is asked of the core under analysis
+-- what is asked of the core under analysis; it may be parked in any interval
 pub record SoundCore (p : Plan) (core : ℕ) : Type 0 where
   pub first : 1 ≤ core
   pub last : core ≤ p .cores
-  pub budgets : All (λ (row : List ℕ). 1 ≤ budgetOf core row) (rows p)
-
--- a core that is not without a budget has one in every row
-with-budget : (core : ℕ) (rs : List (List ℕ))
-    → withoutBudget core rs ≡ false
-    → All (λ (row : List ℕ). 1 ≤ budgetOf core row) rs
-unfolding withoutBudget
-with-budget core [] e = tt
-with-budget core (r ∷ rs) e =
-    let none = eqb (budgetOf core r) 0 in (
-      omega (arith, eqb-false (budgetOf core r) 0 (or-first none (withoutBudget core rs) e)),
-      with-budget core rs (or-second none (withoutBudget core rs) e),
-    )
-
--- a core that has a budget in every row is not without one
-not-without : (core : ℕ) (rs : List (List ℕ))
-    → All (λ (row : List ℕ). 1 ≤ budgetOf core row) rs
-    → withoutBudget core rs ≡ false
-unfolding withoutBudget
-not-without core [] all = refl
-not-without core (r ∷ rs) all =
-    rw (ne-eqb (budgetOf core r) 0 (λ e. omega (arith, all .0))) (not-without core rs (all .1))
 
 -- a core that is not refused is sound
 pub sound-core : (p : Plan) (core : ℕ) → coreRefusal p core ≡ 0 → SoundCore p core
 unfolding coreRefusal
 sound-core p core e =
-    let six = refusedIf (outside 1 (p .cores) core) 6 in
-    let seven = refusedIf (withoutBudget core (rows p)) 7 in
-    let number = inside 1 (p .cores) core (not-broken _ 5 (first-zero six seven e)) in
-    record {
-      first = number .0;
-      last = number .1;
-      budgets = with-budget core (rows p) (not-broken _ 6 (second-zero six seven e));
-    }
+    let number = inside 1 (p .cores) core (not-broken _ 5 e) in
+    record { first = number .0; last = number .1 }
 
 -- a sound core is not refused
 pub core-sound : (p : Plan) (core : ℕ) → SoundCore p core → coreRefusal p core ≡ 0
 unfolding coreRefusal
-core-sound p core s =
-    both-zero
-    (not-refused 6 (not-outside (s .first) (s .last)))
-    (not-refused 7 (not-without core (rows p) (s .budgets)))
+core-sound p core s = not-refused 6 (not-outside (s .first) (s .last))
 
 module _ (m : ℕ) (lengths budgets : List ℕ) (i : ℕ) (h : i < length lengths) where
   -- the rows from an interval on are its row and the rows after it
@@ -264,17 +233,6 @@ module _ (m : ℕ) (lengths budgets : List ℕ) (i : ℕ) (h : i < length length
   unfolding intervalsRefusal
   intervals-from perPeriod soFar = rw (rows-from, drop-cons lengths i 0 h, add-one)
 
-  -- a core is without a budget from an interval on where it is so in that one or later
-  pub without-from : (core : ℕ)
-      → 1 ≤ core
-      → core ≤ m
-      → withoutBudget core (drop i (rowsOf m lengths budgets))
-      ≡ (eqb (getD budgets (i * m + (core - 1)) 0) 0 || withoutBudget core (drop (i + 1) (rowsOf m lengths budgets)))
-  unfolding withoutBudget
-  without-from core first last =
-      let column : core - 1 < m = omega arith in
-      rw (rows-from, getD-take m (drop (i * m) budgets) (core - 1) 0 column, getD-drop)
-
 -- every interval's budgets sum to Q
 abbrev pub WholeRows : ℕ → List (List ℕ) → Type 0
 WholeRows perPeriod rs = All (λ (r : List ℕ). sumOf r ≡ perPeriod) rs
@@ -287,34 +245,64 @@ whole-rows m perPeriod (r ∷ rs) h = (h .0 .sum, whole-rows m perPeriod rs (h .
 pub plan-whole : (p : Plan) → SoundPlan p → WholeRows (p .perPeriod) (rows p)
 plan-whole p sound = whole-rows (p .cores) (p .perPeriod) (rows p) (sound .rows)
 
--- the refusals of the intervals are at most 11, as all that are given before a span is sought
-intervals-few : (perPeriod soFar : ℕ) (ls : List ℕ) (rs : List (List ℕ)) → intervalsRefusal perPeriod soFar ls rs ≤ 11
-unfolding intervalsRefusal
-intervals-few perPeriod soFar [] rs = zero-le
-intervals-few perPeriod soFar (l ∷ ls) [] = zero-le
-intervals-few perPeriod soFar (l ∷ ls) (r ∷ rs) =
-    let four = eqb l 0 || ltb mostPeriods (soFar + l) in
-    let five = not (eqb (sumOf r) perPeriod) in
-    first-bounded 11 (refusedIf four 4 before refusedIf five 5) (intervalsRefusal perPeriod (soFar + l) ls rs)
-    (first-bounded 11 (refusedIf four 4) (refusedIf five 5) (rule-bounded four 11 4 (omega arith)) (rule-bounded five 11 5 (omega arith)))
-    (intervals-few perPeriod (soFar + l) ls rs)
+-- what holds of 0, 4 and 5 holds of an interval's refusal
+pub interval-has : (P : ℕ → Type 0) (perPeriod soFar l : ℕ) (row : List ℕ) → P 0 → P 4 → P 5 → P (intervalRefusal perPeriod soFar l row)
+interval-has P perPeriod soFar l row none four five =
+    let periods = eqb l 0 || ltb mostPeriods (soFar + l) in
+    let budgets = not (eqb (sumOf row) perPeriod) in
+    first-has P (refusedIf periods 4) (refusedIf budgets 5) (rule-has P periods 4 none four) (rule-has P budgets 5 none five)
 
--- so are those of a plan
-pub plan-few : (p : Plan) → planRefusal p ≤ 11
+-- what holds of 0 to 5 holds of the refusals of the intervals
+intervals-has : (P : ℕ → Type 0) (perPeriod soFar : ℕ) (ls : List ℕ) (rs : List (List ℕ))
+    → ((n : ℕ) → n ≤ 5 → P n)
+    → P (intervalsRefusal perPeriod soFar ls rs)
+unfolding intervalsRefusal
+intervals-has P perPeriod soFar [] rs each = each 0 zero-le
+intervals-has P perPeriod soFar (l ∷ ls) [] each = each 0 zero-le
+intervals-has P perPeriod soFar (l ∷ ls) (r ∷ rs) each =
+    first-has P (intervalRefusal perPeriod soFar l r) (intervalsRefusal perPeriod (soFar + l) ls rs)
+    (interval-has P perPeriod soFar l r (each 0 zero-le) (each 4 (omega arith)) (each 5 (omega arith)))
+    (intervals-has P perPeriod (soFar + l) ls rs each)
+
+-- and of a plan's
+pub plan-has : (P : ℕ → Type 0) (p : Plan) → ((n : ℕ) → n ≤ 5 → P n) → P (planRefusal p)
 unfolding planRefusal
-plan-few p =
+plan-has P p each =
     let one = outside 1 mostCores (p .cores) in
     let two = outside 1 mostPerPeriod (p .perPeriod) in
     let three = intervalsOutside (intervals p) || not (eqb (length (p .budgets)) (intervals p * p .cores)) in
     let later = intervalsRefusal (p .perPeriod) 0 (p .lengths) (rows p) in
-    first-bounded 11 (refusedIf one 1) (refusedIf two 2 before refusedIf three 3 before later) (rule-bounded one 11 1 (omega arith))
-    (first-bounded 11 (refusedIf two 2) (refusedIf three 3 before later) (rule-bounded two 11 2 (omega arith))
-    (first-bounded 11 (refusedIf three 3) later (rule-bounded three 11 3 (omega arith)) (intervals-few (p .perPeriod) 0 (p .lengths) (rows p))))
+    let none = each 0 zero-le in
+    first-has P (refusedIf one 1) (refusedIf two 2 before refusedIf three 3 before later) (rule-has P one 1 none (each 1 (omega arith)))
+    (first-has P (refusedIf two 2) (refusedIf three 3 before later) (rule-has P two 2 none (each 2 (omega arith)))
+    (first-has P (refusedIf three 3) later (rule-has P three 3 none (each 3 (omega arith)))
+    (intervals-has P (p .perPeriod) 0 (p .lengths) (rows p) each)))
 
--- and of a core
-pub core-few : (p : Plan) (core : ℕ) → coreRefusal p core ≤ 11
+-- what holds of 0 and 6 holds of a core's
+pub core-has : (P : ℕ → Type 0) (p : Plan) (core : ℕ) → P 0 → P 6 → P (coreRefusal p core)
 unfolding coreRefusal
-core-few p core =
-    let six = outside 1 (p .cores) core in
-    let seven = withoutBudget core (rows p) in
-    first-bounded 11 (refusedIf six 6) (refusedIf seven 7) (rule-bounded six 11 6 (omega arith)) (rule-bounded seven 11 7 (omega arith))
+core-has P p core = rule-has P (outside 1 (p .cores) core) 6
+
+-- what holds of 0 to 6 and 8 to 11 holds of what a span question is judged with
+pub span-has : (P : ℕ → Type 0) (p : Plan) (w : Workload) (room : ℕ)
+    → ((n : ℕ) → n ≤ 11 → (n ≡ 7 → ⊥) → P n)
+    → P (spanRefusal p w room)
+unfolding spanRefusal
+span-has P p w room each =
+    let eight = outside 1 mostWork (w .computing) in
+    let nine = outside 0 mostWork (w .requests) in
+    let ten = outside 1 (mostSpan p) (w .horizon) in
+    let eleven = ltb room (intervals p) in
+    let fifth = refusedIf eleven 11 in
+    let fourth = refusedIf ten 10 before fifth in
+    let third = refusedIf nine 9 before fourth in
+    let second = refusedIf eight 8 before third in
+    let first = coreRefusal p (w .core) before second in
+    let one : (n : ℕ) → n ≤ 11 → eqb n 7 ≡ false → P n = λ n le other. each n le (eqb-false n 7 other) in
+    let none = one 0 zero-le refl in
+    let low : (n : ℕ) → n ≤ 5 → P n = λ n le. each n (omega (arith, le)) (λ seven. lt-irrefl n (omega (arith, le, seven))) in
+    first-has P (planRefusal p) first (plan-has P p low)
+    (first-has P (coreRefusal p (w .core)) second (core-has P p (w .core) none (one 6 (omega arith) refl))
+    (first-has P (refusedIf eight 8) third (rule-has P eight 8 none (one 8 (omega arith) refl))
+    (first-has P (refusedIf nine 9) fourth (rule-has P nine 9 none (one 9 (omega arith) refl))
+    (first-has P (refusedIf ten 10) fifth (rule-has P ten 10 none (one 10 (omega arith) refl)) (rule-has P eleven 11 none (one 11 (omega arith) refl))))))

@@ -19,11 +19,11 @@ EndsWith next first horizon (Ending.Span span rounds) =
     × (rounds ≡ k + 1)
 EndsWith next first horizon Ending.NoSpan = (k : ℕ) × (t : ℕ) × TermReached next first horizon k t × (horizon < t)
 
--- the terms of a workload by an order of segments climb
-abbrev pub TermsClimb : ℕ → (ℕ → List ℕ) → List Pick → Workload → Type 0
-TermsClimb perPeriod share o w = RisingTerms (termAfter perPeriod share o w) (holding perPeriod (work w))
+-- the terms of a workload by the bases and an order of segments climb
+abbrev pub TermsClimb : ℕ → List ℕ → (ℕ → List ℕ) → List Pick → Workload → Type 0
+TermsClimb perPeriod bases share o w = RisingTerms (termAfter perPeriod bases share o w) (holding perPeriod (work w))
 
 -- the ending of the search over them
-abbrev pub Searched : ℕ → (ℕ → List ℕ) → List Pick → Workload → Ending → Type 0
-Searched perPeriod share o w r =
-    EndsWith (termAfter perPeriod share o w) (holding perPeriod (work w)) (w .horizon) r
+abbrev pub Searched : ℕ → List ℕ → (ℕ → List ℕ) → List Pick → Workload → Ending → Type 0
+Searched perPeriod bases share o w r =
+    EndsWith (termAfter perPeriod bases share o w) (holding perPeriod (work w)) (w .horizon) r

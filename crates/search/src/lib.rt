@@ -1,15 +1,15 @@
-// The search over 004's terms, for segments that are in the order of filling.
+// The search over 004's terms, for bases and for segments that are in the order of filling.
 ghost use mathlib.Core.Path.{_≡_};
 ghost use Prim.Native.Nat.{_+_, _≤_};
 ghost use lib.ListN.{length};
-ghost use Rattle.meaning.specs.Plan.{mostPerPeriod};
+ghost use Rattle.meaning.specs.Plan.{mostPerPeriod, mostIntervals};
 ghost use Rattle.meaning.specs.Span.{work};
 ghost use Rattle.span_laws.specs.TermsInSlots.{holding};
 ghost use Rattle.units.specs.Units.{periodsOf};
 ghost use Rattle.units.specs.Given.{workloadOf};
 ghost use Rattle.segments.specs.Packed.{between};
 ghost use Rattle.shares.specs.Shares.{CycleOf, sharesGiven};
-ghost use Rattle.search.specs.Walked.{Walkable, termAfter};
+ghost use Rattle.search.specs.Walked.{Walkable, stallWith};
 ghost use Rattle.search.specs.Searched.{TermsClimb, Searched};
 use units::Head;
 use units::MadePeriods;
@@ -36,37 +36,37 @@ fn term_for(per_period: Slots, workload: Workload, stall: Slots) -> MadePeriods
     sum.periods(per_period)
 }
 
-// The term after one.
+// The term after one at which the intervals have these shares.
 fn next_term(
     picks: &[u64; 512],
     count: usize,
-    head: Head,
-    cycle: Periods,
-    lengths: &[u16],
+    bases: &[u16],
+    shares: &[u16; 64],
+    per_period: Slots,
     workload: Workload,
-    term: Periods,
 ) -> MadePeriods
-    requires { ⌜ (1 ≤ head .«per_period» .0) × (head .«per_period» .0 ≤ mostPerPeriod) × CycleOf (cycle .0) (now lengths) × Walkable (length (now lengths)) (now picks) count ⌝ }
-    ensures { λ r. ⌜ r ≡ periodsOf (termAfter (head .«per_period» .0) (sharesGiven (now (lengths .entry))) (between 0 count (now (picks .entry))) (workloadOf workload) (term .0)) ⌝ }
+    requires { ⌜ (1 ≤ «per_period» .0) × («per_period» .0 ≤ mostPerPeriod) × Walkable (now picks) count (now bases) ⌝ }
+    ensures { λ r. ⌜ r ≡ periodsOf (holding («per_period» .0) (work (workloadOf workload) + stallWith (now (bases .entry)) (now (shares .entry)) (between 0 count (now (picks .entry))) (workload .requests .0))) ⌝ }
 {
-    let shares = shares::shares_of(cycle, lengths, term);
-    let MadeSlots::Within(stall) = stall::greatest(picks, count, &shares, workload.requests) else {
+    let requests = workload.requests;
+    let MadeSlots::Within(stall) = stall::greatest(picks, count, bases, shares, requests) else {
         return MadePeriods::Outside;
     };
-    term_for(head.per_period, workload, stall)
+    term_for(per_period, workload, stall)
 }
 
 // The search over the terms: it ends at the first term equal to the one before it, or past the horizon.
 pub fn search(
     picks: &[u64; 512],
     count: usize,
+    bases: &[u16],
     head: Head,
     cycle: Periods,
     lengths: &[u16],
     workload: Workload,
 ) -> Ending
-    requires { ⌜ (1 ≤ head .«per_period» .0) × (head .«per_period» .0 ≤ mostPerPeriod) × CycleOf (cycle .0) (now lengths) × Walkable (length (now lengths)) (now picks) count × TermsClimb (head .«per_period» .0) (sharesGiven (now lengths)) (between 0 count (now picks)) (workloadOf workload) ⌝ }
-    ensures { λ r. ⌜ Searched (head .«per_period» .0) (sharesGiven (now (lengths .entry))) (between 0 count (now (picks .entry))) (workloadOf workload) r ⌝ }
+    requires { ⌜ (1 ≤ head .«per_period» .0) × (head .«per_period» .0 ≤ mostPerPeriod) × CycleOf (cycle .0) (now lengths) × (length (now lengths) ≤ mostIntervals) × Walkable (now picks) count (now bases) × TermsClimb (head .«per_period» .0) (now bases) (sharesGiven (now lengths)) (between 0 count (now picks)) (workloadOf workload) ⌝ }
+    ensures { λ r. ⌜ Searched (head .«per_period» .0) (now (bases .entry)) (sharesGiven (now (lengths .entry))) (between 0 count (now (picks .entry))) (workloadOf workload) r ⌝ }
 {
     let made = term_for(head.per_period, workload, Slots(0));
     let MadePeriods::Within(first) = made else {
@@ -78,14 +78,14 @@ pub fn search(
         if workload.horizon.0 < term.0 {
             break Ending::NoSpan;
         }
+        let shares = shares::shares_of(cycle, lengths, term);
         let MadePeriods::Within(next) = next_term(
             picks,
             count,
-            head,
-            cycle,
-            lengths,
+            bases,
+            &shares,
+            head.per_period,
             workload,
-            term,
         ) else {
             break Ending::NoSpan;
         };

@@ -1,4 +1,4 @@
--- What the two questions of a plan promise, from how they are judged and from what the order of the segments gives.
+-- What the two questions of a plan promise, from how they are judged and from what the prepared plan gives.
 use mathlib.Core.Path.{_≡_, refl, sym, subst}
 use mathlib.Core.Logic.{inl, inr}
 use mathlib.Core.List.{List, []}
@@ -19,11 +19,11 @@ use Rattle.units.specs.declared.Periods.{Periods}
 use Rattle.units.specs.declared.Refusal.{Refusal}
 use Rattle.judge.specs.Judged.{refused-before}
 use Rattle.segments.specs.Packed.{between}
-use Rattle.shares.specs.Shares.{sharesGiven}
+use Rattle.shares.specs.Shares.{inArray, sharesGiven}
 use Rattle.search.specs.Walked.{placedWith, Gives, termAfter}
 use Rattle.search.specs.Searched.{EndsWith, TermsClimb, Searched}
 use Rattle.search.specs.declared.Ending.{Ending}
-use Rattle.span.specs.Ordered.{OrderOf, order-gives, order-terms, order-rises}
+use Rattle.span.specs.Prepared.{PreparedFor, prepared-gives, prepared-terms, prepared-rises}
 
 module _ (p : Plan) (core requests n : ℕ) (place : List ℕ) where
   -- a placement question is refused with the number that it is judged with, and the place is kept
@@ -34,15 +34,16 @@ module _ (p : Plan) (core requests n : ℕ) (place : List ℕ) where
       judged-refused _ _ (numberOf f) (placementRefusal p core requests n (length place)) (refused-before f 1 refl) e (refl, refl)
 
   -- the answered placement is written, and its stall is answered
-  pub placement-answered : (picks : List ℕ) (count stall : ℕ) (after : List ℕ)
+  pub placement-answered : (picks : List ℕ) (count : ℕ) (bases array : List ℕ) (stall : ℕ) (after : List ℕ)
       → placementRefusal p core requests n (length place) ≡ 0
-      → OrderOf p core picks count
-      → Gives (sharesGiven (p .lengths) n) (intervals p) (between 0 count picks) requests place stall after
+      → PreparedFor p core picks count bases
+      → array ≡ inArray (sharesGiven (p .lengths) n)
+      → Gives (intervals p) bases array (between 0 count picks) requests place stall after
       → PlacementPromise p core requests n place (record { refused = 0; stall = stall }) after
-  placement-answered picks count stall after e o gives =
+  placement-answered picks count bases array stall after e o made gives =
       let sound = sound-placement p core requests n (length place) e in
-      let (answered, out) = order-gives p (sound .plan) picks count core (sound .budgets) o requests n place stall after (sound .inLimit) gives in
-      rw e (placedWith (sharesAt p n) (intervals p) (between 0 count picks) requests, stall, answered, refl, out)
+      let (answered, out) = prepared-gives p (sound .plan) picks count bases core o requests n array place stall after made (sound .inLimit) gives in
+      rw e (placedWith (intervals p) (sharesAt p n) (between 0 count picks) requests, stall, answered, refl, out)
 
 module _ (p : Plan) (w : Workload) (place : List ℕ) where
   -- a span question is refused with the number that it is judged with, and the place is kept
@@ -52,52 +53,54 @@ module _ (p : Plan) (w : Workload) (place : List ℕ) where
   span-refused f e =
       ([], judged-refused _ _ (numberOf f) (spanRefusal p w (length place)) (refused-before f 1 refl) e (refl, refl), refl)
 
-  module _ (e : spanRefusal p w (length place) ≡ 0) (picks : List ℕ) (count : ℕ) (o : OrderOf p (w .core) picks count) where
+  module _ (e : spanRefusal p w (length place) ≡ 0) (picks : List ℕ) (count : ℕ) (bases : List ℕ)
+      (o : PreparedFor p (w .core) picks count bases) where
     sound : SoundSpan p w (length place)
     sound = sound-span p w (length place) e
 
     next : ℕ → ℕ
-    next = termAfter (p .perPeriod) (sharesGiven (p .lengths)) (between 0 count picks) w
+    next = termAfter (p .perPeriod) bases (sharesGiven (p .lengths)) (between 0 count picks) w
 
     terms : (t : ℕ) → t ≤ w .horizon → NextTerm p w t (next t)
     unfolding next
-    terms t inside = order-terms p (sound .plan) picks count w (sound .budgets) o t (le-trans inside (sound .inLimit))
+    terms t inside = prepared-terms p (sound .plan) picks count bases w o t (le-trans inside (sound .inLimit))
 
     rising : RisingTerms next (firstTerm p w)
     unfolding next
-    rising = order-rises p w picks count (sound .plan) (sound .budgets) o
+    rising = prepared-rises p w picks count bases (sound .plan) o
 
     -- the terms rise
-    pub span-terms : TermsClimb (p .perPeriod) (sharesGiven (p .lengths)) (between 0 count picks) w
+    pub span-terms : TermsClimb (p .perPeriod) bases (sharesGiven (p .lengths)) (between 0 count picks) w
     unfolding next
     span-terms = subst (RisingTerms next) (first-holding p w) rising
 
     from-first : (r : Ending)
-        → Searched (p .perPeriod) (sharesGiven (p .lengths)) (between 0 count picks) w r
+        → Searched (p .perPeriod) bases (sharesGiven (p .lengths)) (between 0 count picks) w r
         → EndsWith next (firstTerm p w) (w .horizon) r
     unfolding next
     from-first r = subst (λ (first : ℕ). EndsWith next first (w .horizon) r) (sym (first-holding p w))
 
     -- 12: the terms pass the horizon
-    pub span-none : Searched (p .perPeriod) (sharesGiven (p .lengths)) (between 0 count picks) w Ending.NoSpan
+    pub span-none : Searched (p .perPeriod) bases (sharesGiven (p .lengths)) (between 0 count picks) w Ending.NoSpan
         → SpanPromise p w place (noSpanFigures 12) place
     span-none ended =
         let (k, t, reached, past) = from-first Ending.NoSpan ended in
         ([], rw e (inr (reached-none p w (sound .plan) next terms k t reached past, refl, refl)), refl)
 
     -- the span is found: the answered placement there is written
-    pub span-found : (span : Periods) (rounds stall : ℕ) (after : List ℕ)
-        → Searched (p .perPeriod) (sharesGiven (p .lengths)) (between 0 count picks) w (Ending.Span span rounds)
-        → Gives (sharesGiven (p .lengths) (span .0)) (intervals p) (between 0 count picks) (w .requests) place stall after
+    pub span-found : (span : Periods) (rounds : ℕ) (array : List ℕ) (stall : ℕ) (after : List ℕ)
+        → Searched (p .perPeriod) bases (sharesGiven (p .lengths)) (between 0 count picks) w (Ending.Span span rounds)
+        → array ≡ inArray (sharesGiven (p .lengths) (span .0))
+        → Gives (intervals p) bases array (between 0 count picks) (w .requests) place stall after
         → SpanPromise p w place (record { refused = 0; span = span .0; stall = stall; rounds = rounds }) after
-    span-found span rounds stall after ended gives =
+    span-found span rounds array stall after ended made gives =
         let (k, reached, inside, same, counted) = from-first (Ending.Span span rounds) ended in
         let found = reached-span p w (sound .plan) next terms k (span .0) rising (sound .someComputing) reached inside same in
         let (answered, out) =
-        order-gives p (sound .plan) picks count (w .core) (sound .budgets) o (w .requests) (span .0) place stall after
+        prepared-gives p (sound .plan) picks count bases (w .core) o (w .requests) (span .0) array place stall after made
         (le-trans inside (sound .inLimit))
         gives in
-        let xs = placedWith (sharesAt p (span .0)) (intervals p) (between 0 count picks) (w .requests) in
+        let xs = placedWith (intervals p) (sharesAt p (span .0)) (between 0 count picks) (w .requests) in
         let here : SpanGiven p w (record { refused = 0; span = span .0; stall = stall; rounds = rounds }) xs =
         record {
           answered = refl;

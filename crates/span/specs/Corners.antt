@@ -1,4 +1,4 @@
--- The corners of all intervals of a plan, found one interval after another.
+-- The corners and the bases of all intervals of a plan, found one interval after another.
 use mathlib.Core.Path.{_≡_, sym, ap, _∙_, subst}
 use mathlib.Core.Logic.{⊎-elim}
 use mathlib.Core.List.{List, []}
@@ -12,7 +12,7 @@ use Rattle.meaning.specs.Curve.{Corner, Curve, EnvelopeOf, rates, stalls, count
 use Rattle.number_laws.specs.Lists.{listFrom, all-at}
 use Rattle.plan_laws.specs.SoundPlan.{SoundPlan, SoundCore, WholeRow}
 use Rattle.placement_laws.specs.StallUnique.{row-concave}
-use Rattle.placement_laws.specs.PlacementExists.{CurvesOf}
+use Rattle.placement_laws.specs.PlacementExists.{CurvesOf, baseOf}
 use Rattle.curve.specs.Rows.{Interval}
 use Rattle.curve.specs.Figures.{InBlock, HoldsEnvelope}
 use Rattle.curve.specs.Found.{holds-most}
@@ -49,30 +49,38 @@ block-curve c b holds =
     ap (λ (n : ℕ). listFrom 1 n corner) long ∙ list-of noCorner (c .rest) 1 corner (λ k h. each k) in
     λ i. record { first = first i; rest = rest i }
 
--- the blocks of the first n intervals of a plan hold their corners, in an array for 64 intervals
-pub record Cornered (p : Plan) (core n : ℕ) (blocks : List Block) : Type 0 where
-  pub long : length blocks ≡ 64
-  pub each : (k : ℕ) → k < n → HoldsEnvelope (p .perPeriod) core (getD (rows p) k []) (getD blocks k noBlock)
+-- an array for 64 intervals, in which P holds of each of the first n
+pub record FirstHold {A : Type 0} (P : ℕ → A → Type 0) (none : A) (n : ℕ) (array : List A) : Type 0 where
+  pub long : length array ≡ 64
+  pub each : (k : ℕ) → k < n → P k (getD array k none)
 
--- the next interval's block is put in its place
-pub cornered-more : (p : Plan) (core n : ℕ) (blocks : List Block) (b : Block)
+-- the next one is put in its place
+pub hold-more : {A : Type 0} (P : ℕ → A → Type 0) (none : A) (n : ℕ) (array : List A) (a : A)
     → n < 64
-    → HoldsEnvelope (p .perPeriod) core (getD (rows p) n []) b
-    → Cornered p core n blocks
-    → Cornered p core (n + 1) (set blocks n b)
-cornered-more p core n blocks b room here so-far =
+    → P n a
+    → FirstHold P none n array
+    → FirstHold P none (n + 1) (set array n a)
+hold-more {A} P none n array a room here so-far =
     record {
-      long = length-set blocks n b ∙ so-far .long;
+      long = length-set array n a ∙ so-far .long;
       each =
           λ k lt.
           let up : k ≤ n = omega (arith, lt) in
           ⊎-elim
-          (λ e. rw (e, getD-set-same blocks n b noBlock (omega (arith, so-far .long))) here)
-          (λ less. rw (getD-set-other blocks n k b noBlock (λ e. lt-irrefl n (omega (arith, less, e)))) (so-far .each k less))
+          (λ e. rw (e, getD-set-same array n a none (omega (arith, so-far .long))) here)
+          (λ less. rw (getD-set-other array n k a none (λ e. lt-irrefl n (omega (arith, less, e)))) (so-far .each k less))
           (eq-or-lt-of-le up);
     }
 
-module _ (p : Plan) (core : ℕ) (sound : SoundPlan p) (budgets : SoundCore p core) where
+-- the blocks of the first n intervals of a plan hold their corners
+abbrev pub Cornered : Plan → ℕ → ℕ → List Block → Type 0
+Cornered p core = FirstHold (λ k b. HoldsEnvelope (p .perPeriod) core (getD (rows p) k []) b) noBlock
+
+-- the bases of the first n intervals stand in their places
+abbrev pub Based : Plan → ℕ → ℕ → List ℕ → Type 0
+Based p core = FirstHold (λ k n. n ≡ baseOf p core k) 0
+
+module _ (p : Plan) (core : ℕ) (sound : SoundPlan p) (analysed : SoundCore p core) where
   -- an interval of a sound plan has what its corners are found from
   pub sound-interval : (i : ℕ) → i < intervals p → Interval (p .perPeriod) core (getD (rows p) i [])
   sound-interval i h =
@@ -80,7 +88,7 @@ module _ (p : Plan) (core : ℕ) (sound : SoundPlan p) (budgets : SoundCore p co
       let whole : WholeRow (p .cores) (p .perPeriod) row =
       all-at (WholeRow (p .cores) (p .perPeriod)) (rows p) [] i (sound .rows) (rw (sound .rowsCount) h) in
       record {
-        whole = record { sums = whole .sum; first = budgets .first; last = omega (arith, whole .cores, budgets .last) };
+        whole = record { sums = whole .sum; first = analysed .first; last = omega (arith, whole .cores, analysed .last) };
         slots = sound .fewSlots;
         cores = omega (arith, whole .cores, sound .fewCores);
       }

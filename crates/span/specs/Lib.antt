@@ -1,4 +1,4 @@
 pub mod Figures
 pub mod Corners
-pub mod Ordered
+pub mod Prepared
 pub mod Answered

@@ -1,17 +1,15 @@
 // The two questions of a whole plan: placement and stall at a given W, and span.
 ghost use Prim.Native.Nat.{_≤_};
-ghost use lib.ListN.{length};
-ghost use Rattle.meaning.specs.Plan.{mostWork};
+ghost use lib.ListN.{length, take};
+ghost use Rattle.meaning.specs.Plan.{mostIntervals, mostWork};
 ghost use Rattle.meaning.specs.Promises.{PlacementPromise, SpanPromise};
 ghost use Rattle.plan_laws.specs.SoundPlan.{SoundPlan, SoundCore};
 ghost use Rattle.units.specs.Given.{planOf, workloadOf};
-ghost use Rattle.segments.specs.Packed.{between};
-ghost use Rattle.shares.specs.Shares.{CycleOf, sharesGiven};
+ghost use Rattle.segments.specs.Packed.{between, Inside};
 ghost use Rattle.search.specs.Walked.{stallWith, Gives, Walkable};
 ghost use Rattle.span.specs.Figures.{placementFigures, spanFigures};
-ghost use Rattle.span.specs.Ordered.{OrderOf};
+ghost use Rattle.span.specs.Prepared.{PreparedFor, ParkedUntil, LastParked};
 use judge::Judgement;
-use order::Ordered;
 use search::Ending;
 use units::Block;
 use units::Head;
@@ -38,41 +36,76 @@ pub enum SpanAnswer {
     Refused(Refusal),
 }
 
-// The segments of a sound plan's curves for a core in the order of filling; the corners of each interval are found once.
-fn order_of(head: Head, lengths: &[u16], budgets: &[u16], core: u8) -> Ordered
+// What is found once for a plan and a core: the segments of all intervals in the order of filling, in the first `count` places, and the
+// base of each interval, its stall at 0 requests: Q where the core is parked, else 0. It is parked in none past the first `parked_until`.
+struct Prepared {
+    picks: [u64; 512],
+    count: usize,
+    bases: [u16; 64],
+    parked_until: usize,
+}
+
+// How many intervals there are up to the last one in which the core is parked; 0 where it is parked in none.
+fn parked_until(bases: &[u16; 64], intervals: usize) -> usize
+    requires { ⌜ intervals ≤ mostIntervals ⌝ }
+    ensures { λ r. ⌜ ParkedUntil intervals (now (bases .entry)) r × LastParked (now (bases .entry)) r ⌝ }
+{
+    let mut last = intervals;
+    while 0 < last {
+        if bases[last - 1] != 0 {
+            return last;
+        }
+        last -= 1;
+    }
+    last
+}
+
+// A sound plan prepared for a core; the corners of each interval are found once.
+fn prepare(head: Head, lengths: &[u16], budgets: &[u16], core: u8) -> Prepared
     requires { ⌜ SoundPlan (planOf head (now lengths) (now budgets)) × SoundCore (planOf head (now lengths) (now budgets)) core ⌝ }
-    ensures { λ r. ⌜ OrderOf (planOf head (now (lengths .entry)) (now (budgets .entry))) core (r .picks) (r .count) ⌝ }
+    ensures { λ r. ⌜ PreparedFor (planOf head (now (lengths .entry)) (now (budgets .entry))) core (r .picks) (r .count) (take (r .«parked_until») (r .bases)) × (r .«parked_until» ≤ length (r .bases)) × LastParked (r .bases) (r .«parked_until») ⌝ }
 {
     let m = head.cores as usize;
     let intervals = lengths.len();
     let mut blocks = [Block::EMPTY; 64];
+    let mut bases = [0u16; 64];
     let mut i = 0;
     while i < intervals {
         let start = i * m;
         let end = start + m;
-        blocks[i] = curve::interval_corners(head.per_period, &budgets[start..end], core);
+        let block = curve::interval_corners(head.per_period, &budgets[start..end], core);
+        bases[i] = block.stalls[0];
+        blocks[i] = block;
         i += 1;
     }
-    order::order(blocks, intervals)
+    let ordered = order::order(blocks, intervals);
+    let picks = ordered.picks;
+    let count = ordered.count;
+    let parked_until = parked_until(&bases, intervals);
+    Prepared {
+        picks,
+        count,
+        bases,
+        parked_until,
+    }
 }
 
-// The answered placement at W, from the front of the place, and its stall. By what is required a plan has slots for the stall, so that
-// it is never Outside.
-fn answer_at(
+// The answered placement of so many intervals with these bases and shares, from the front of the place, and its stall. By what is required
+// a plan has slots for the stall, so that it is never Outside.
+fn answer_with(
     picks: &[u64; 512],
     count: usize,
-    cycle: Periods,
-    lengths: &[u16],
+    bases: &[u16],
+    shares: &[u16; 64],
+    intervals: usize,
     requests: Requests,
-    periods: Periods,
     place: &mut [u32],
 ) -> Slots
-    requires { ⌜ CycleOf (cycle .0) (now lengths) × Walkable (length (now lengths)) (now picks) count × (length (now lengths) ≤ length (now place)) × (stallWith (sharesGiven (now lengths) (periods .0)) (between 0 count (now picks)) (requests .0) ≤ mostWork) ⌝ }
-    ensures { λ r. ⌜ Gives (sharesGiven (now (lengths .entry)) (periods .0)) (length (now (lengths .entry))) (between 0 count (now (picks .entry))) (requests .0) (now (place .entry)) (r .0) (now (place .exit)) ⌝ }
+    requires { ⌜ Walkable (now picks) count (now bases) × Inside intervals (between 0 count (now picks)) × (intervals ≤ length (now place)) × (stallWith (now bases) (now shares) (between 0 count (now picks)) (requests .0) ≤ mostWork) ⌝ }
+    ensures { λ r. ⌜ Gives intervals (now (bases .entry)) (now (shares .entry)) (between 0 count (now (picks .entry))) (requests .0) (now (place .entry)) (r .0) (now (place .exit)) ⌝ }
 {
-    let shares = shares::shares_of(cycle, lengths, periods);
-    stall::place(picks, count, &shares, requests, lengths.len(), place);
-    match stall::greatest(picks, count, &shares, requests) {
+    stall::place(picks, count, shares, requests, intervals, place);
+    match stall::greatest(picks, count, bases, shares, requests) {
         MadeSlots::Within(stall) => stall,
         MadeSlots::Outside => Slots(Slots::MAX),
     }
@@ -97,15 +130,17 @@ pub fn placement(
     match workload::judged_placement(head, lengths, budgets, core, requests, periods, room) {
         Judgement::Refused(why) => PlacementAnswer::Refused(why),
         Judgement::Sound(cycle) => {
-            let ordered = order_of(head, lengths, budgets, core);
-            let count = ordered.count;
-            let stall = answer_at(
-                &ordered.picks,
+            let prepared = prepare(head, lengths, budgets, core);
+            let count = prepared.count;
+            let bases = prepared.bases;
+            let shares = shares::shares_of(cycle, lengths, periods);
+            let stall = answer_with(
+                &prepared.picks,
                 count,
-                cycle,
-                lengths,
+                &bases[0..prepared.parked_until],
+                &shares,
+                lengths.len(),
                 requests,
-                periods,
                 place,
             );
             PlacementAnswer::Stall(stall)
@@ -129,14 +164,25 @@ pub fn span(
     match workload::judged_span(head, lengths, budgets, workload, place.len()) {
         Judgement::Refused(why) => SpanAnswer::Refused(why),
         Judgement::Sound(cycle) => {
-            let ordered = order_of(head, lengths, budgets, workload.core);
-            let count = ordered.count;
-            let picks = &ordered.picks;
-            match search::search(picks, count, head, cycle, lengths, workload) {
+            let prepared = prepare(head, lengths, budgets, workload.core);
+            let count = prepared.count;
+            let picks = &prepared.picks;
+            let all = prepared.bases;
+            let bases = &all[0..prepared.parked_until];
+            match search::search(picks, count, bases, head, cycle, lengths, workload) {
                 Ending::NoSpan => SpanAnswer::Refused(Refusal::NoSpan),
                 Ending::Span { span, rounds } => {
+                    let shares = shares::shares_of(cycle, lengths, span);
                     let requests = workload.requests;
-                    let stall = answer_at(picks, count, cycle, lengths, requests, span, place);
+                    let stall = answer_with(
+                        picks,
+                        count,
+                        bases,
+                        &shares,
+                        lengths.len(),
+                        requests,
+                        place,
+                    );
                     SpanAnswer::Found {
                         span,
                         stall,

@@ -45,14 +45,11 @@ holds-under p q w v n g sound slots less stall h le =
           (h .enough));
     }
 
-module _ (p : Plan) (w v : Workload) (sound : SoundPlan p) (budgets : SoundCore p (w .core)) (less : NoMoreWork v w) where
-  same-core : SoundCore p (v .core)
-  same-core = subst (SoundCore p) (sym (less .core)) budgets
-
+module _ (p : Plan) (w v : Workload) (sound : SoundPlan p) (less : NoMoreWork v w) where
   -- what holds the work holds less work too
   holds-less : (n : ℕ) → Holds p w n → Holds p v n
   holds-less n h =
-      let found = placed-at-exists p v sound same-core n in
+      let found = placed-at-exists p v sound n in
       let stall = placed-at-greatest p v sound n (found .0) (found .1) (found .2) in
       holds-under p p w v n (total (found .2 .parts) (found .0)) sound refl (omega (arith, less .computing, less .requests)) stall h
       (stall-at-grows p w sound v n n _ (h .stall) (less .core) (less .requests) (le-refl n) stall (h .greatest))
@@ -66,7 +63,7 @@ module _ (p : Plan) (w v : Workload) (sound : SoundPlan p) (budgets : SoundCore 
       let m = found .0 in
       (m, found .2, ⊎-elim (λ le. le) (λ lt. absurd (found .2 .least n (span .positive) lt holds)) (le-or-lt m n)))
       (λ nothing. absurd (nothing n (span .positive) inside holds))
-      (span-or-none p v sound same-core some)
+      (span-or-none p v sound some)
 
 -- up to the horizon of w the plan p has for w the terms that q has for v, and the same periods hold the work
 pub record Alike (p q : Plan) (w v : Workload) : Type 0 where
@@ -150,7 +147,7 @@ answer-room p w room room' a xs answer none lent =
     given-answer p w room' a xs
     (record {
       plan = s .plan;
-      budgets = s .budgets;
+      analysed = s .analysed;
       someComputing = s .someComputing;
       fewComputing = s .fewComputing;
       fewRequests = s .fewRequests;
@@ -171,7 +168,7 @@ sound-less : (p : Plan) (w v : Workload) (room : ℕ)
 sound-less p w v room s less some positive inLimit =
     record {
       plan = s .plan;
-      budgets = subst (SoundCore p) (sym (less .core)) (s .budgets);
+      analysed = subst (SoundCore p) (sym (less .core)) (s .analysed);
       someComputing = some;
       fewComputing = le-trans (less .computing) (s .fewComputing);
       fewRequests = le-trans (less .requests) (s .fewRequests);
@@ -193,7 +190,7 @@ pub asked-less : (p : Plan) (w v : Workload) (room : ℕ) (a b : SpanFigures) (x
 asked-less p w v room a b xs ys first none less some inside inLimit again =
     let asked = answer-given p w room a xs first none in
     let plan = asked .0 .plan in
-    let found = less-work p w v plan (asked .0 .budgets) less (a .span) some inside (asked .1 .isSpan) in
+    let found = less-work p w v plan less (a .span) some inside (asked .1 .isSpan) in
     ⊎-elim
     (λ given. (
       given .answered,

@@ -11,12 +11,12 @@ use Rattle.meaning.specs.Fraction.{Fraction, _=ᶠ_}
 use Rattle.meaning.specs.Plan.{Plan, Workload, sumOf, intervals, mostSpan, rowsOf, rows}
 use Rattle.meaning.specs.Placement.{Part, sharesAt, PartsOf, Parts, total, GreatestStall, AnsweredAt}
 use Rattle.meaning.specs.Span.{work, Holds, NextTerm}
-use Rattle.meaning.specs.Refusals.{planRefusal, coreRefusal}
+use Rattle.meaning.specs.Refusals.{planRefusal}
 use Rattle.meaning.specs.Promises.{SpanFigures, SpanGiven, SpanAnswered}
 use Rattle.meaning.specs.Again.{longer, zerosFor}
 use Rattle.number_laws.specs.Fractions.{round-up-same, same-of-le, same-trans}
 use Rattle.number_laws.specs.Lists.{sum-append}
-use Rattle.plan_laws.specs.SoundPlan.{SoundPlan, SoundCore, sound-plan, sound-core, WholeRows, plan-whole}
+use Rattle.plan_laws.specs.SoundPlan.{SoundPlan, sound-plan, WholeRows, plan-whole}
 use Rattle.placement_laws.specs.Shares.{plan-sharing, plan-shares-behind}
 use Rattle.placement_laws.specs.StallUnique.{parts-concave, parts-proper, stall-value-proper, stall-value-same}
 use Rattle.placement_laws.specs.PlacementExists.{greatest-exists}
@@ -138,12 +138,11 @@ module _ (p : Plan) (ls bs : List ℕ) (core : ℕ) (plain : p .repeating ≡ fa
 
   -- and the other way round
   shorter-stall : (requests n : ℕ) (g : Fraction)
-      → SoundCore p core
       → n ≤ mostSpan p
       → GreatestStall (longer p ls bs) core requests (sharesAt (longer p ls bs) n) g
       → (f : Fraction) × GreatestStall p core requests (sharesAt p n) f × (f =ᶠ g)
-  shorter-stall requests n g budgets inside h =
-      let own = greatest-exists p core sound budgets requests (sharesAt p n) (plan-sharing p sound .many n) in
+  shorter-stall requests n g inside h =
+      let own = greatest-exists p core sound requests (sharesAt p n) (plan-sharing p sound .many n) in
       let there = longer-stall requests n (own .0) inside (own .1) in (
         own .0,
         own .1,
@@ -157,7 +156,7 @@ module _ (p : Plan) (ls bs : List ℕ) (core : ℕ) (plain : p .repeating ≡ fa
       )
 
 module _ (p : Plan) (ls bs : List ℕ) (w : Workload) (plain : p .repeating ≡ false) (sound : SoundPlan p) (more : SoundPlan (longer p ls bs))
-    (budgets : SoundCore p (w .core)) (within : w .horizon ≤ mostSpan p) where
+    (within : w .horizon ≤ mostSpan p) where
   -- the terms are the same
   term-longer : (t next : ℕ) → t ≤ w .horizon → NextTerm p w t next → NextTerm (longer p ls bs) w t next
   term-longer t next inside h =
@@ -191,7 +190,7 @@ module _ (p : Plan) (ls bs : List ℕ) (w : Workload) (plain : p .repeating ≡ 
   -- and the other way round
   holds-shorter : (n : ℕ) → n ≤ w .horizon → Holds (longer p ls bs) w n → Holds p w n
   holds-shorter n inside h =
-      let own = shorter-stall p ls bs (w .core) plain sound more (w .requests) n (h .stall) budgets (le-trans inside within) (h .greatest) in
+      let own = shorter-stall p ls bs (w .core) plain sound more (w .requests) n (h .stall) (le-trans inside within) (h .greatest) in
       holds-under (longer p ls bs) p w w n (own .0) more refl (le-refl (work w)) (own .1) h (le-of-eq (own .2))
 
   -- intervals added behind leave the span the same, and its stall and rounds; the placement goes on with zeros
@@ -225,17 +224,16 @@ pub asked-longer : (p : Plan) (ls bs : List ℕ) (w : Workload) (room room' : �
     → SpanAnswered p w room a xs
     → a .refused ≡ 0
     → planRefusal (longer p ls bs) ≡ 0
-    → coreRefusal (longer p ls bs) (w .core) ≡ 0
     → intervals (longer p ls bs) ≤ room'
     → SpanAnswered (longer p ls bs) w room' b ys
     → (b ≡ a) × (ys ≡ xs ++ zerosFor ls)
-asked-longer p ls bs w room room' a b xs ys plain first none plan core lent again =
+asked-longer p ls bs w room room' a b xs ys plain first none plan lent again =
     let asked = answer-given p w room a xs first none in
     let s = asked .0 in
     let sound : SoundSpan (longer p ls bs) w room' =
     record {
       plan = sound-plan (longer p ls bs) plan;
-      budgets = sound-core (longer p ls bs) (w .core) core;
+      analysed = record { first = s .analysed .first; last = s .analysed .last };
       someComputing = s .someComputing;
       fewComputing = s .fewComputing;
       fewRequests = s .fewRequests;
@@ -245,4 +243,4 @@ asked-longer p ls bs w room room' a b xs ys plain first none plan core lent agai
     } in
     span-answer-unique (longer p ls bs) w room' b a ys (xs ++ zerosFor ls) again
     (given-answer (longer p ls bs) w room' a (xs ++ zerosFor ls) sound
-    (longer-span p ls bs w plain (s .plan) (sound .plan) (s .budgets) (s .inLimit) a xs (asked .1)))
+    (longer-span p ls bs w plain (s .plan) (sound .plan) (s .inLimit) a xs (asked .1)))

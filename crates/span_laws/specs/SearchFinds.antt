@@ -11,7 +11,7 @@ use lib.Arith.{lt-of-le-ne}
 use lib.Dec.{ltb, eqb}
 use borrow.Author.Tests.{lt-ltb, le-ltb, eq-eqb, ne-eqb}
 use Rattle.number_laws.specs.Order.{le-or-lt, eq-or-ne}
-use Rattle.plan_laws.specs.SoundPlan.{SoundPlan, SoundCore}
+use Rattle.plan_laws.specs.SoundPlan.{SoundPlan}
 use Rattle.span_laws.specs.StallAtW.{placed-at-exists}
 use Rattle.span_laws.specs.TermsRise.{next-of-stall, AtMostSpan, Climbs, holds-first, holds-next, settled-span, past-no-span, first-climbs, next-climbs, first-positive}
 
@@ -110,11 +110,10 @@ sort p w sound next right nothing h = inr h
 -- a workload has a span with its rounds, or no span
 pub span-or-none : (p : Plan) (w : Workload)
     → SoundPlan p
-    → SoundCore p (w .core)
     → 1 ≤ w .computing
     → ((n : ℕ) × (k : ℕ) × IsSpan p w n × Rounds p w n k) ⊎ NoSpan p w
-span-or-none p w sound core some =
-    let at = placed-at-exists p w sound core in
+span-or-none p w sound some =
+    let at = placed-at-exists p w sound in
     let next : ℕ → ℕ = λ t. roundUp (record { num = work w + at t .1; den = p .perPeriod }) in
     let right : (t : ℕ) → NextTerm p w t (next t) = λ t. next-of-stall p w sound t (at t .1) (at t .0) (at t .2) in
     sort p w sound next right

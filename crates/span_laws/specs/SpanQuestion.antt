@@ -12,10 +12,10 @@ use borrow.Author.Tests.{ltb-false, le-ltb}
 use Rattle.meaning.specs.Plan.{Plan, Workload, intervals, mostSpan, mostWork, sumOf}
 use Rattle.meaning.specs.Fraction.{roundUp}
 use Rattle.meaning.specs.Span.{PlacedAt, work, NoSpan, firstTerm}
-use Rattle.meaning.specs.Refusals.{refusedIf, outside, _before_, planRefusal, coreRefusal, computingRefusal, requestsRefusal, horizonRefusal, roomRefusal, spanRefusal}
+use Rattle.meaning.specs.Refusals.{outside, _before_, planRefusal, coreRefusal, computingRefusal, requestsRefusal, horizonRefusal, roomRefusal, spanRefusal}
 use Rattle.meaning.specs.Promises.{RefusedOr, SpanFigures, noSpanFigures, SpanGiven, SpanAnswered, SpanPromise, written}
-use Rattle.plan_laws.specs.RefusalOrder.{first-zero, second-zero, first-bounded, rule-bounded, not-broken, inside, both-judged, both-zero, not-refused, not-outside}
-use Rattle.plan_laws.specs.SoundPlan.{SoundPlan, SoundCore, sound-plan, sound-core, plan-sound, core-sound, plan-few, core-few}
+use Rattle.plan_laws.specs.RefusalOrder.{first-zero, second-zero, not-broken, inside, both-judged, both-zero, not-refused, not-outside}
+use Rattle.plan_laws.specs.SoundPlan.{SoundPlan, SoundCore, sound-plan, sound-core, plan-sound, core-sound, span-has}
 use Rattle.span_laws.specs.StallAtW.{placed-count, placed-at-unique, placed-at-exists}
 use Rattle.span_laws.specs.TermsRise.{span-unique, span-not-none, settles-unique, next-of-stall, rounds-bound}
 use Rattle.span_laws.specs.SearchFinds.{Sought, found, nothing, sought, Right, search-right}
@@ -24,7 +24,7 @@ use Rattle.span_laws.specs.AllPlaced.{holds-places-all}
 -- a span question that is not refused before the search
 pub record SoundSpan (p : Plan) (w : Workload) (room : ℕ) : Type 0 where
   pub plan : SoundPlan p
-  pub budgets : SoundCore p (w .core)
+  pub analysed : SoundCore p (w .core)
   pub someComputing : 1 ≤ w .computing
   pub fewComputing : w .computing ≤ mostWork
   pub fewRequests : w .requests ≤ mostWork
@@ -49,7 +49,7 @@ sound-span p w room e =
     let within = inside 1 (mostSpan p) (w .horizon) (not-broken (outside 1 (mostSpan p) (w .horizon)) 9 (first-zero (horizonRefusal p (w .horizon)) fifth later)) in
     record {
       plan = sound-plan p (first-zero (planRefusal p) first e);
-      budgets = sound-core p (w .core) (first-zero (coreRefusal p (w .core)) second cores);
+      analysed = sound-core p (w .core) (first-zero (coreRefusal p (w .core)) second cores);
       someComputing = some .0;
       fewComputing = some .1;
       fewRequests = inside 0 mostWork (w .requests) (not-broken (outside 0 mostWork (w .requests)) 8 (first-zero (requestsRefusal (w .requests)) fourth asked)) .1;
@@ -167,7 +167,7 @@ answer-exists : (p : Plan) (w : Workload) (room number : ℕ)
     → (a : SpanFigures) × (xs : List ℕ) × SpanAnswered p w room a xs
 answer-exists p w room zero e =
     let sound = sound-span p w room e in
-    let at = placed-at-exists p w (sound .plan) (sound .budgets) in (
+    let at = placed-at-exists p w (sound .plan) in (
       soughtFigures (λ t. at t .1) (searchBy p w (λ t. at t .1)),
       soughtPlacement (λ t. at t .0) (searchBy p w (λ t. at t .1)),
       search-answer p w room (λ t. at t .1) (λ t. at t .0) e (λ t. at t .2),
@@ -184,7 +184,7 @@ span-sound : (p : Plan) (w : Workload) (room : ℕ) → SoundSpan p w room → s
 unfolding spanRefusal
 span-sound p w room s =
     both-zero (plan-sound p (s .plan))
-    (both-zero (core-sound p (w .core) (s .budgets))
+    (both-zero (core-sound p (w .core) (s .analysed))
     (both-zero (not-refused 8 (not-outside (s .someComputing) (s .fewComputing)))
     (both-zero (not-refused 9 (not-outside zero-le (s .fewRequests)))
     (both-zero (not-refused 10 (not-outside (s .positive) (s .inLimit)))
@@ -236,22 +236,7 @@ span-promise-exists p w place =
 
 -- what is judged before the span is sought is refused with at most 11
 refusal-few : (p : Plan) (w : Workload) (room : ℕ) → spanRefusal p w room ≤ 11
-unfolding spanRefusal
-refusal-few p w room =
-    let eight = outside 1 mostWork (w .computing) in
-    let nine = outside 0 mostWork (w .requests) in
-    let ten = outside 1 (mostSpan p) (w .horizon) in
-    let eleven = ltb room (intervals p) in
-    let fifth = refusedIf eleven 11 in
-    let fourth = refusedIf ten 10 before fifth in
-    let third = refusedIf nine 9 before fourth in
-    let second = refusedIf eight 8 before third in
-    let first = coreRefusal p (w .core) before second in
-    first-bounded 11 (planRefusal p) first (plan-few p)
-    (first-bounded 11 (coreRefusal p (w .core)) second (core-few p (w .core))
-    (first-bounded 11 (refusedIf eight 8) third (rule-bounded eight 11 8 (omega arith))
-    (first-bounded 11 (refusedIf nine 9) fourth (rule-bounded nine 11 9 (omega arith))
-    (first-bounded 11 (refusedIf ten 10) fifth (rule-bounded ten 11 10 (omega arith)) (rule-bounded eleven 11 11 (omega arith))))))
+refusal-few p w room = span-has (λ n. n ≤ 11) p w room (λ n le other. le)
 
 module _ (p : Plan) (w : Workload) (room : ℕ) (a : SpanFigures) (xs : List ℕ) (h : SpanAnswered p w room a xs) where
   -- a span once given has all requests placed

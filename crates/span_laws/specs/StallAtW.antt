@@ -8,7 +8,7 @@ use Rattle.meaning.specs.Fraction.{Fraction, Proper, _≤ᶠ_, _=ᶠ_}
 use Rattle.meaning.specs.Plan.{Plan, Workload, sumOf, intervals, mostSpan, mostPeriods, rows, intervalAt}
 use Rattle.meaning.specs.Placement.{Part, sharesAt, PartsOf, Fitting, total}
 use Rattle.meaning.specs.Span.{StallAt, PlacedAt}
-use Rattle.plan_laws.specs.SoundPlan.{SoundPlan, SoundCore, most-span-few}
+use Rattle.plan_laws.specs.SoundPlan.{SoundPlan, most-span-few}
 use Rattle.placement_laws.specs.Shares.{plan-sharing, shares-sum, shares-grow}
 use Rattle.placement_laws.specs.StallUnique.{stall-value-proper, stall-value-same, answered-with-unique}
 use Rattle.placement_laws.specs.PlacementExists.{answered-greatest, answered-exists}
@@ -58,8 +58,8 @@ module _ (p : Plan) (w : Workload) (sound : SoundPlan p) where
   placed-at-greatest n = answered-greatest p (w .core) (w .requests) (sharesAt p n)
 
   -- there always is one
-  pub placed-at-exists : SoundCore p (w .core) → (n : ℕ) → (xs : List ℕ) × (s : ℕ) × PlacedAt p w n xs s
-  placed-at-exists budgets n = answered-exists p (w .core) sound budgets (w .requests) (sharesAt p n) (plan-sharing p sound .many n)
+  pub placed-at-exists : (n : ℕ) → (xs : List ℕ) × (s : ℕ) × PlacedAt p w n xs s
+  placed-at-exists n = answered-exists p (w .core) sound (w .requests) (sharesAt p n) (plan-sharing p sound .many n)
 
   -- S(W) of a workload with no more requests on the same core, for no more periods, is no larger
   pub stall-at-grows : (v : Workload) (t n : ℕ) (f g : Fraction)

@@ -19,11 +19,11 @@ use Rattle.meaning.specs.Span.{NextTerm}
 use Rattle.number_laws.specs.Lists.{listFrom}
 use Rattle.plan_laws.specs.RefusalOrder.{and-first, and-second}
 use Rattle.plan_laws.specs.SoundPlan.{SoundPlan}
-use Rattle.placement_laws.specs.Filling.{walk, fill}
-use Rattle.placement_laws.specs.FillingAnswers.{walkStall}
+use Rattle.placement_laws.specs.Filling.{fill}
+use Rattle.placement_laws.specs.FillingAnswers.{filledStall}
 use Rattle.placement_laws.specs.OrderMerged.{none, within, orderTo}
 use Rattle.placement_laws.specs.Shares.{plan-sharing}
-use Rattle.placement_laws.specs.PlacementExists.{CurvesOf, answered-in-order}
+use Rattle.placement_laws.specs.PlacementExists.{CurvesOf, baseOf, answered-in-order}
 use Rattle.placement_laws.specs.PlacementQuestion.{sound-placement}
 use Rattle.span_laws.specs.TermsRise.{next-of-stall}
 use Rattle.span_laws.specs.SpanQuestion.{sound-span, soughtFigures, soughtPlacement, searchBy, search-answer, nextBy}
@@ -169,12 +169,12 @@ claimed-curves p core sound cs right i h =
 abbrev pub claimedStall : Plan → ℕ → ℕ → List Curve → ℕ → ℕ
 claimedStall p core requests cs t =
     roundUp
-    (walkStall
-    0
-    (walk
+    (filledStall
+    (intervals p)
     (λ i. getD (sharesAt p t) i 0)
+    (baseOf p core)
     (orderTo (intervals p) (within 0 (intervals p) (λ i. getD cs i none)))
-    requests))
+    requests)
 
 -- and the placement
 abbrev pub claimedPlacement : Plan → ℕ → ℕ → List Curve → ℕ → List ℕ
@@ -212,7 +212,7 @@ claim-answer p w room cs e right =
     (claimedPlacement p (w .core) (w .requests) cs)
     e
     (λ t.
-    answered-in-order p (w .core) (sound .plan) (sound .budgets) (λ i. getD cs i none)
+    answered-in-order p (w .core) (sound .plan) (λ i. getD cs i none)
     (claimed-curves p (w .core) (sound .plan) cs right)
     (sharesAt p t)
     (plan-sharing p (sound .plan) .many t)
@@ -231,7 +231,7 @@ pub claim-placement : (p : Plan) (core requests n room : ℕ) (cs : List Curve)
     (claimedStall p core requests cs n)
 claim-placement p core requests n room cs e right =
     let sound = sound-placement p core requests n room e in
-    answered-in-order p core (sound .plan) (sound .budgets) (λ i. getD cs i none)
+    answered-in-order p core (sound .plan) (λ i. getD cs i none)
     (claimed-curves p core (sound .plan) cs right)
     (sharesAt p n)
     (plan-sharing p (sound .plan) .many n)

@@ -1,15 +1,16 @@
-// Greatest stall and the answered placement, for shares and an order of filling that are given.
+// Greatest stall and the answered placement, for bases, shares and an order of filling that are given.
 ghost use mathlib.Core.Path.{_≡_};
 ghost use mathlib.Core.List.{_++_};
 ghost use Prim.Native.Nat.{_+_, _*_, _≤_, _<_};
 ghost use lib.ListN.{length, getD, drop, set, replicate};
 ghost use Rattle.units.specs.Units.{slotsOf};
 ghost use Rattle.meaning.specs.Fraction.{roundUp};
+ghost use Rattle.meaning.specs.Plan.{mostIntervals, mostWork};
 ghost use Rattle.number_laws.specs.Lists.{listFrom};
-ghost use Rattle.placement_laws.specs.Filling.{walk, fill};
-ghost use Rattle.placement_laws.specs.FillingAnswers.{walkStall};
+ghost use Rattle.placement_laws.specs.Filling.{baseStall, fill};
+ghost use Rattle.placement_laws.specs.FillingAnswers.{filledStall};
 ghost use Rattle.segments.specs.Packed.{pickOf, between, Runs, Inside};
-ghost use Rattle.stall.specs.Walks.{shareAt};
+ghost use Rattle.stall.specs.Walks.{numberAt};
 use segments::crossed;
 use segments::interval_of;
 use segments::rise_of;
@@ -30,22 +31,38 @@ fn part(requests: Requests, rise: Slots, run: Requests) -> u64
 
 // The share of a packed segment's interval, as wide as a product.
 fn share_of(shares: &[u16; 64], segment: u64) -> u64
-    ensures { λ r. ⌜ (r ≡ shareAt (now (shares .entry)) (pickOf segment .interval)) × (r ≤ 65_535) ⌝ }
+    ensures { λ r. ⌜ (r ≡ numberAt (now (shares .entry)) (pickOf segment .interval)) × (r ≤ 65_535) ⌝ }
 {
     wide(shares[interval_of(segment)]) as u64
 }
 
-// The greatest stall, rounded up to a whole slot.
+// The stall before any request is placed: each share times its interval's base, the stall at 0 requests, for as many intervals as there
+// are bases. It is a number of slots that may be past what the unit holds.
+fn base_stall(bases: &[u16], shares: &[u16; 64]) -> u64
+    requires { ⌜ length (now bases) ≤ mostIntervals ⌝ }
+    ensures { λ r. ⌜ (r ≡ baseStall (length (now (bases .entry))) (numberAt (now (shares .entry))) (numberAt (now (bases .entry)))) × (r ≤ mostIntervals * mostWork) ⌝ }
+{
+    let mut stall: u64 = 0;
+    let mut i = 0;
+    while i < bases.len() {
+        stall += (wide(shares[i]) * wide(bases[i])) as u64;
+        i += 1;
+    }
+    stall
+}
+
+// The greatest stall, rounded up to a whole slot: that of the bases, and what the filling adds.
 pub fn greatest(
     picks: &[u64; 512],
     count: usize,
+    bases: &[u16],
     shares: &[u16; 64],
     requests: Requests,
 ) -> MadeSlots
-    requires { ⌜ (count ≤ 512) × Runs (between 0 count (now picks)) ⌝ }
-    ensures { λ r. ⌜ r ≡ slotsOf (roundUp (walkStall 0 (walk (shareAt (now (shares .entry))) (between 0 count (now (picks .entry))) (requests .0)))) ⌝ }
+    requires { ⌜ (count ≤ 512) × Runs (between 0 count (now picks)) × (length (now bases) ≤ mostIntervals) ⌝ }
+    ensures { λ r. ⌜ r ≡ slotsOf (roundUp (filledStall (length (now (bases .entry))) (numberAt (now (shares .entry))) (numberAt (now (bases .entry))) (between 0 count (now (picks .entry))) (requests .0))) ⌝ }
 {
-    let mut whole: u64 = 0;
+    let mut whole = base_stall(bases, shares);
     let mut left = requests.0 as u64;
     let mut k = 0;
     while k < count {
@@ -95,7 +112,7 @@ pub fn place(
     placement: &mut [u32],
 )
     requires { ⌜ (count ≤ 512) × Inside intervals (between 0 count (now picks)) × (intervals ≤ length (now placement)) ⌝ }
-    ensures { λ r. ⌜ now (placement .exit) ≡ listFrom 0 intervals (fill (shareAt (now (shares .entry))) (between 0 count (now (picks .entry))) (requests .0) (λ j. 0)) ++ drop intervals (now (placement .entry)) ⌝ }
+    ensures { λ r. ⌜ now (placement .exit) ≡ listFrom 0 intervals (fill (numberAt (now (shares .entry))) (between 0 count (now (picks .entry))) (requests .0) (λ j. 0)) ++ drop intervals (now (placement .entry)) ⌝ }
 {
     clear(placement, intervals);
     let mut left = requests.0 as u64;

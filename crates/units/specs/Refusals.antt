@@ -14,7 +14,6 @@ numberOf Refusal.IntervalsOrBudgetsOutside = 3
 numberOf Refusal.PeriodsOutside = 4
 numberOf Refusal.SumNotPerPeriod = 5
 numberOf Refusal.CoreOutside = 6
-numberOf Refusal.NoBudget = 7
 numberOf Refusal.ComputingOutside = 8
 numberOf Refusal.RequestsOutside = 9
 numberOf Refusal.HorizonOutside = 10
@@ -38,7 +37,7 @@ byNumber =
     ∷ Refusal.PeriodsOutside
     ∷ Refusal.SumNotPerPeriod
     ∷ Refusal.CoreOutside
-    ∷ Refusal.NoBudget
+    ∷ Refusal.CoresOutside
     ∷ Refusal.ComputingOutside
     ∷ Refusal.RequestsOutside
     ∷ Refusal.HorizonOutside
@@ -71,7 +70,6 @@ found-by-number Refusal.IntervalsOrBudgetsOutside = refl
 found-by-number Refusal.PeriodsOutside = refl
 found-by-number Refusal.SumNotPerPeriod = refl
 found-by-number Refusal.CoreOutside = refl
-found-by-number Refusal.NoBudget = refl
 found-by-number Refusal.ComputingOutside = refl
 found-by-number Refusal.RequestsOutside = refl
 found-by-number Refusal.HorizonOutside = refl
@@ -97,7 +95,6 @@ some-number Refusal.IntervalsOrBudgetsOutside = lit< tt
 some-number Refusal.PeriodsOutside = lit< tt
 some-number Refusal.SumNotPerPeriod = lit< tt
 some-number Refusal.CoreOutside = lit< tt
-some-number Refusal.NoBudget = lit< tt
 some-number Refusal.ComputingOutside = lit< tt
 some-number Refusal.RequestsOutside = lit< tt
 some-number Refusal.HorizonOutside = lit< tt

@@ -173,7 +173,7 @@ pub fn wide(number: u16) -> u32
     number as u32
 }
 
-// What a question is refused for, one case for each number of the table in document 01.
+// What a question is refused for, one case for each number of the table in document 01 but 7, which is unused since request 2026-02.
 pub enum Refusal {
     CoresOutside,
     PerPeriodOutside,
@@ -181,7 +181,6 @@ pub enum Refusal {
     PeriodsOutside,
     SumNotPerPeriod,
     CoreOutside,
-    NoBudget,
     ComputingOutside,
     RequestsOutside,
     HorizonOutside,
@@ -208,7 +207,6 @@ impl Refusal {
             Refusal::PeriodsOutside => 4,
             Refusal::SumNotPerPeriod => 5,
             Refusal::CoreOutside => 6,
-            Refusal::NoBudget => 7,
             Refusal::ComputingOutside => 8,
             Refusal::RequestsOutside => 9,
             Refusal::HorizonOutside => 10,

@@ -18,11 +18,11 @@ abbrev pub askedRefusal : ℕ → ℕ → ℕ → ℕ → ℕ → ℕ
 askedRefusal most requests n wanted room =
     requestsRefusal requests before refusedIf (outside 1 most n) 10 before roomRefusal wanted room
 
--- a placement question judged: 1 to 7, 9, 10, 11
+-- a placement question judged: 1 to 6, 9, 10, 11
 abbrev pub PlacementJudged : Plan → ℕ → ℕ → ℕ → ℕ → Judgement → Type 0
 PlacementJudged p core requests n room r = Judged (placementRefusal p core requests n room) (periods p) r
 
--- a span question judged before its search: 1 to 11
+-- a span question judged before its search: 1 to 6, 8 to 11
 abbrev pub SpanJudged : Plan → Workload → ℕ → Judgement → Type 0
 SpanJudged p w room r = Judged (spanRefusal p w room) (periods p) r
 

@@ -1,4 +1,4 @@
-// The two questions of a plan, judged: refusals 1 to 11 in document 01's order.
+// The two questions of a plan, judged: refusals 1 to 6 and 8 to 11 in document 01's order.
 ghost use mathlib.Core.Path.{_≡_};
 ghost use Rattle.meaning.specs.Plan.{spanLimit};
 ghost use Rattle.units.specs.Given.{planOf, workloadOf};
@@ -50,7 +50,7 @@ fn asked(
     Judgement::Sound(cycle)
 }
 
-// A placement question judged: 1 to 7, then 9, 10, 11.
+// A placement question judged: 1 to 6, then 9, 10, 11.
 pub fn judged_placement(
     head: Head,
     lengths: &[u16],
@@ -76,7 +76,7 @@ pub fn judged_placement(
     )
 }
 
-// A span question judged before its search: 1 to 11.
+// A span question judged before its search: 1 to 6, then 8 to 11.
 pub fn judged_span(
     head: Head,
     lengths: &[u16],

@@ -344,9 +344,10 @@ fn fill_workloads(random: &mut Random, records: &mut Records, _: u8) {
     let mut body = vec![1, 0, 9, 0, 0, 0, 3, 0, 0, 0, 1, 0];
     if let Some(workload) = one_of_kind(random, records, WORKLOAD) {
         body = workload[4..].to_vec();
-        // Few requests, so that all these searches are short.
+        // Few requests and a near horizon, so that all these searches are short.
         body.resize(12, 0);
         body[6..10].copy_from_slice(&[3, 0, 0, 0]);
+        body[11] = 0;
     }
     let listed = records
         .iter()

@@ -15,8 +15,10 @@ impl Curves {
     /// The greatest total stall, rounded up.
     pub fn greatest_stall(&self, seen: &CorePlan, span: u64, requests: u64) -> u64 {
         let shares = seen.shares(span);
+        let mut stall = 0;
         let mut segments = Vec::new();
         for (corners, share) in self.0.iter().zip(shares) {
+            stall += share * corners[0].1;
             for pair in corners.windows(2) {
                 let (run, rise) = (pair[1].0 - pair[0].0, pair[1].1 - pair[0].1);
                 segments.push((run, rise, share));
@@ -24,7 +26,6 @@ impl Curves {
         }
         segments.sort_by(|one, other| (other.1 * one.0).cmp(&(one.1 * other.0)));
         let mut left = requests;
-        let mut stall = 0;
         for (run, rise, share) in segments {
             let placed = left.min(run * share);
             stall += (placed * rise).div_ceil(run);
@@ -49,9 +50,9 @@ fn corners(seen: &CorePlan, interval: usize) -> Vec<(u64, u64)> {
     let budget = seen.own_budget(interval);
     let others = seen.interval_budgets(interval).iter();
     let mut rates: Vec<u64> = others.map(|&other| u64::from(other)).collect();
-    rates.extend([budget - 1, budget]);
+    rates.extend([budget.saturating_sub(1), budget]);
     rates.retain(|&rate| rate <= budget);
-    let mut corners = vec![(0, 0)];
+    let mut corners = vec![(0, raw_stall(seen, interval, 0))];
     loop {
         let (from, stall) = corners[corners.len() - 1];
         let gains = rates.iter().filter(|&&rate| rate > from).map(|&rate| {

@@ -7,6 +7,7 @@ mod fit;
 mod marks;
 mod measured;
 mod measured_cycles;
+mod measured_parked;
 mod plans;
 mod questions;
 mod random;
@@ -27,7 +28,8 @@ const USAGE: &str = "usage: generate questions | stored | small | runs SEED COUN
        generate sweep [NUMBER]
        generate lines
        generate written < ANSWERS
-       generate marks < QUESTIONS";
+       generate marks < QUESTIONS
+       generate listed < FILE";
 
 /// Question `number` under a seed.
 type Stream = fn(u64, u64) -> Vec<u8>;
@@ -64,7 +66,8 @@ fn run(words: &[&str]) -> Option<io::Result<()>> {
         }
         ["lines"] => Some(write_lines()),
         ["written"] => Some(write_written()),
-        ["marks"] => Some(write_marks()),
+        ["marks"] => Some(write_marks(marks::lines)),
+        ["listed"] => Some(write_marks(marks::listed)),
         [mode, seed, count, first @ ..] => {
             let stream: Stream = match *mode {
                 "questions" => questions::mixed,
@@ -123,12 +126,12 @@ fn write_written() -> io::Result<()> {
     output.flush()
 }
 
-/// A line for each question of a stream.
-fn write_marks() -> io::Result<()> {
-    let mut stream = Vec::new();
-    io::stdin().lock().read_to_end(&mut stream)?;
+/// A line for each question of a stream, or for each workload of a file.
+fn write_marks(lines: fn(&[u8]) -> Vec<String>) -> io::Result<()> {
+    let mut input = Vec::new();
+    io::stdin().lock().read_to_end(&mut input)?;
     let mut output = BufWriter::new(io::stdout().lock());
-    for line in marks::lines(&stream) {
+    for line in lines(&input) {
         writeln!(output, "{line}")?;
     }
     output.flush()

@@ -5,6 +5,7 @@ use std::path::Path;
 
 use crate::files;
 use crate::measured_cycles;
+use crate::measured_parked;
 use crate::plans::{parts, CorePlan, Plan, MOST_PERIODS, MOST_SLOTS};
 use crate::random::Random;
 use crate::workloads::Workload;
@@ -50,7 +51,10 @@ pub fn write_files(folder: &Path) -> io::Result<()> {
     }
     let [repeating, plain] = measured_cycles::streams();
     write("repeating.questions".to_string(), repeating)?;
-    write("plain.questions".to_string(), plain)
+    write("plain.questions".to_string(), plain)?;
+    let [parked, unparked] = measured_parked::streams();
+    write("parked.questions".to_string(), parked)?;
+    write("unparked.questions".to_string(), unparked)
 }
 
 /// A plan of 64 intervals of nearly equal length in which every core has a

@@ -7,7 +7,7 @@ use crate::plans::{CorePlan, Plan, MOST_PERIODS};
 use crate::questions::{workload_record, PLACEMENT, SPAN};
 use crate::workloads::Workload;
 
-const CORES: u64 = 8;
+pub const CORES: u64 = 8;
 
 /// Own budgets, small and large, each with its Q. The larger Q is beside the
 /// budget, the more rounds a search has: from tens to ten thousand.
@@ -53,7 +53,7 @@ pub fn streams() -> [Vec<u8>; 2] {
 }
 
 /// Core 1 has the own budget; the others share the rest as evenly as can be.
-fn one_interval(mark: u8, length: u16, own_budget: u64, slots: u64) -> CorePlan {
+pub fn column(own_budget: u64, slots: u64) -> Vec<u16> {
     let rest = slots - own_budget;
     let mut budgets = vec![own_budget as u16];
     for other in 0..CORES - 1 {
@@ -61,12 +61,16 @@ fn one_interval(mark: u8, length: u16, own_budget: u64, slots: u64) -> CorePlan 
         let with_it = rest * (other + 1) / (CORES - 1);
         budgets.push((with_it - before) as u16);
     }
+    budgets
+}
+
+fn one_interval(mark: u8, length: u16, own_budget: u64, slots: u64) -> CorePlan {
     let plan = Plan {
         cores: CORES as u8,
         slots_per_period: slots as u32,
         mark,
         lengths: vec![length],
-        budgets,
+        budgets: column(own_budget, slots),
     };
     CorePlan {
         plan,

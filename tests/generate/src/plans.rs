@@ -27,7 +27,8 @@ impl Plan {
     }
 }
 
-/// A sound plan with a core that has a budget in every interval.
+/// A sound plan with the core under analysis, which may be parked in some
+/// intervals: its budget there is 0.
 pub struct CorePlan {
     pub plan: Plan,
     /// Counted from 1.
@@ -59,6 +60,17 @@ impl CorePlan {
 
     pub fn own_budget(&self, interval: usize) -> u64 {
         u64::from(self.interval_budgets(interval)[usize::from(self.core) - 1])
+    }
+
+    /// The intervals in which the core is parked.
+    pub fn parked_intervals(&self) -> Vec<usize> {
+        let intervals = 0..self.plan.lengths.len();
+        let parked = intervals.filter(|&interval| self.own_budget(interval) == 0);
+        parked.collect()
+    }
+
+    pub fn is_parked(&self) -> bool {
+        !self.parked_intervals().is_empty()
     }
 
     /// The periods of each interval at a span: its length for each full cycle
@@ -117,6 +129,9 @@ pub const SMALL: Limits = Limits {
 
 /// Short cycles have at most so many periods.
 const SHORT_CYCLE: u64 = 10;
+
+/// In one of so many plans the core is parked in some intervals.
+const PARKED_ONE_IN: u64 = 3;
 
 #[derive(Clone, Copy, PartialEq, Eq)]
 enum Shape {
@@ -203,8 +218,8 @@ pub fn some_mark(random: &mut Random) -> u8 {
     random.pick(&[1, 1, 1, 2, 128, 255])
 }
 
-/// A plan whose core has a budget of 1, with so many slots and periods that a
-/// search goes on for tens of thousands of rounds.
+/// A plan whose core has a budget of 1, or is parked, with so many slots and
+/// periods that a search goes on for tens of thousands of rounds.
 pub fn many_rounds(random: &mut Random) -> CorePlan {
     let frame = many_rounds_frame(random);
     let intervals = intervals(random, &WHOLE);
@@ -256,14 +271,43 @@ fn frame(random: &mut Random, shape: Shape, limits: &Limits) -> Frame {
 fn framed(random: &mut Random, shape: Shape, frame: &Frame, lengths: Vec<u16>) -> CorePlan {
     let columns = columns(random, shape, frame, lengths.len());
     let budgets = columns.concat().into_iter().map(|budget| budget as u16);
-    let plan = Plan {
+    let mut plan = Plan {
         cores: frame.cores as u8,
         slots_per_period: frame.slots as u32,
         mark: 0,
         lengths,
         budgets: budgets.collect(),
     };
+    if random.one_in(PARKED_ONE_IN) {
+        park(random, &mut plan, frame.own);
+    }
     CorePlan::plain(plan, frame.own as u8 + 1)
+}
+
+/// Parks the core in the first interval, the last, any one, all but one, some
+/// or all of them. Its budget there goes to another core, so a core that is
+/// alone keeps it.
+fn park(random: &mut Random, plan: &mut Plan, own: usize) {
+    let cores = usize::from(plan.cores);
+    let last = plan.lengths.len() - 1;
+    let several = last > 0;
+    let one = random.between(0, last as u64) as usize;
+    let way = random.below(8);
+    for (interval, budgets) in plan.budgets.chunks_exact_mut(cores).enumerate() {
+        let parked = match way {
+            0 | 1 => several && interval == 0,
+            2 => several && interval == last,
+            3 | 4 => interval == one,
+            5 => interval != one,
+            6 => random.one_in(2),
+            _ => true,
+        };
+        if parked && cores > 1 {
+            let other = own + random.between(1, cores as u64 - 1) as usize;
+            budgets[other % cores] += budgets[own];
+            budgets[own] = 0;
+        }
+    }
 }
 
 /// A plan whose records are as long as can be: 64 intervals, and a budget for

@@ -7,8 +7,8 @@ use crate::random::Random;
 use crate::refusals::{some_of, spoil_plan};
 use crate::workloads::{self, Workload};
 
-const RAW: u8 = 1;
-const CORNERS: u8 = 2;
+pub const RAW: u8 = 1;
+pub const CORNERS: u8 = 2;
 pub const PLACEMENT: u8 = 3;
 pub const SPAN: u8 = 4;
 pub const READ: u8 = 5;
@@ -33,6 +33,10 @@ const SMALL_RECORD: usize = 120;
 /// repeat mostly at most so many periods.
 const MOST_PLACEMENTS: u64 = 20_000;
 const SEARCHED_PERIODS: u64 = 40;
+
+/// The plain search looks at every span from the first term on, and parked
+/// periods make these many: such a plan is asked for so many periods at most.
+const SEARCHED_PARKED: u64 = 1_000;
 
 /// A plain search up to any horizon has at most so many requests.
 const FEW_REQUESTS: u32 = 60;
@@ -93,10 +97,10 @@ impl Asked {
     /// The refusals that this kind of question can give, but 12.
     fn refusals(&self) -> &'static [u8] {
         match self.kind {
-            RAW => &[1, 2, 3, 5, 6, 7, 13],
-            CORNERS => &[1, 2, 3, 5, 6, 7, 11],
-            PLACEMENT => &[1, 2, 3, 4, 5, 6, 7, 9, 10, 11],
-            _ => &[1, 2, 3, 4, 5, 6, 7, 8, 9, 10, 11],
+            RAW => &[1, 2, 3, 5, 6, 13],
+            CORNERS => &[1, 2, 3, 5, 6, 11],
+            PLACEMENT => &[1, 2, 3, 4, 5, 6, 9, 10, 11],
+            _ => &[1, 2, 3, 4, 5, 6, 8, 9, 10, 11],
         }
     }
 
@@ -123,7 +127,7 @@ impl Asked {
                 let budget = self.own_budget();
                 self.rate = random.pick(&[budget + 1, budget + 1, budget + 65_536, u32::MAX]);
             }
-            _ => spoil_plan(random, &mut self.plan, self.core, refusal),
+            _ => spoil_plan(random, &mut self.plan, refusal),
         }
     }
 }
@@ -213,7 +217,7 @@ pub fn small(seed: u64, number: u64) -> Vec<u8> {
 fn searchable(random: &mut Random) -> (CorePlan, Workload) {
     let repeating = random.one_in(REPEATING_ONE_IN);
     if repeating && random.one_in(8) {
-        return few_requests_going_round(random, &plans::SMALL);
+        return few_requests_going_round(random, &plans::SMALL, SEARCHED_PARKED);
     }
     let draw = |random: &mut Random| match repeating {
         true => plans::repeating(random, &plans::SMALL, SEARCHED_PERIODS),
@@ -235,10 +239,15 @@ fn searchable(random: &mut Random) -> (CorePlan, Workload) {
     (seen, workload)
 }
 
-/// For some plans that repeat the horizon, or the given span, may be any; the
-/// few requests are placed before long.
+/// For some plans that repeat the horizon, or the given span, may be any, but
+/// not a long one if the core is parked; the few requests are placed before
+/// long.
 fn reach_on(random: &mut Random, seen: &mut CorePlan, workload: &mut Workload) {
-    let reach = std::mem::replace(&mut seen.reach, MOST_PERIODS);
+    let farther = match seen.is_parked() {
+        true => SEARCHED_PARKED,
+        false => MOST_PERIODS,
+    };
+    let reach = std::mem::replace(&mut seen.reach, farther);
     let few = workload.requests <= FEW_REQUESTS
         && workloads::placements(seen, workload.requests) <= MOST_PLACEMENTS;
     if seen.is_repeating() && few && random.one_in(3) {
@@ -249,23 +258,36 @@ fn reach_on(random: &mut Random, seen: &mut CorePlan, workload: &mut Workload) {
 }
 
 /// A plan that repeats and a workload with few requests, for a span near the
-/// longest there is.
-fn few_requests_going_round(random: &mut Random, limits: &Limits) -> (CorePlan, Workload) {
-    let seen = plans::repeating(random, limits, MOST_PERIODS);
+/// longest there is, or near so many periods if the core is parked.
+fn few_requests_going_round(
+    random: &mut Random,
+    limits: &Limits,
+    parked_reach: u64,
+) -> (CorePlan, Workload) {
+    let mut seen = plans::repeating(random, limits, MOST_PERIODS);
+    if seen.is_parked() {
+        seen.reach = parked_reach;
+    }
     let requests = random.below(10);
     let workload = workloads::going_round_with(random, &seen, requests);
     (seen, workload)
 }
 
 /// Question `number` of the stream for lawful runs: spans on small and middle
-/// plans, most of them with no slot to spare.
+/// plans, most of them with no slot to spare. There is no span, and so no run to
+/// judge, where the core is parked everywhere.
 pub fn for_runs(seed: u64, number: u64) -> Vec<u8> {
     let random = &mut Random::new(seed, number);
     let limits = random.pick(&[&plans::SMALL, &plans::MIDDLE, &plans::MIDDLE]);
     let repeating = random.one_in(REPEATING_ONE_IN);
-    let (seen, mut workload) = match repeating && random.one_in(10) {
-        true => few_requests_going_round(random, limits),
-        false => for_whole_runs(random, limits, repeating),
+    let (seen, mut workload) = loop {
+        let drawn = match repeating && random.one_in(10) {
+            true => few_requests_going_round(random, limits, MOST_PERIODS),
+            false => for_whole_runs(random, limits, repeating),
+        };
+        if drawn.0.capacity(drawn.0.reach) > 0 {
+            break drawn;
+        }
     };
     workload.horizon = seen.reach as u16;
     if repeating && random.one_in(2) {
@@ -348,9 +370,13 @@ fn sound_or_marked(random: &mut Random, kind: u8, limits: &Limits) -> CorePlan {
     seen
 }
 
-/// A rate of 0 to the budget, often at the other cores' budgets or the ends.
+/// A rate of 0 to the budget, often at the other cores' budgets or the ends;
+/// sometimes 1 where the core is parked.
 fn some_rate(random: &mut Random, seen: &CorePlan) -> u64 {
     let budget = seen.own_budget(0);
+    if budget == 0 {
+        return random.pick(&[0, 0, 0, 1]);
+    }
     let other = u64::from(random.pick(seen.interval_budgets(0)));
     let rate = match random.below(7) {
         0 => 0,
@@ -422,14 +448,14 @@ fn writing(random: &mut Random) -> Vec<u8> {
     let mut room = files::bytes(&seen.plan, &listed).len() as u64;
     room += random.pick(&[0, 0, 1, 20]);
     let mut lists = Lists::new(&listed);
-    let CorePlan { mut plan, core, .. } = seen;
+    let mut plan = seen.plan;
     if random.one_in(3) {
         for refusal in some_of(random, &[1, 2, 3, 4, 5, 23, 25, 11]) {
             match refusal {
                 11 => room = random.pick(&[0, room.max(1) - 1, room / 2]),
                 23 => plan.mark = plans::some_mark(random),
                 25 => lists.spoil(random),
-                _ => spoil_plan(random, &mut plan, core, refusal),
+                _ => spoil_plan(random, &mut plan, refusal),
             }
         }
     }

@@ -3,16 +3,14 @@
 use crate::plans::{Plan, MOST_PERIODS};
 use crate::random::Random;
 
-/// Puts in a fault for one of the refusals 1 to 5 and 7. With one core there
-/// is nobody to take the own budget, so 7 leaves such a plan as it is.
-pub fn spoil_plan(random: &mut Random, plan: &mut Plan, core: u8, refusal: u8) {
+/// Puts in a fault for one of the refusals 1 to 5.
+pub fn spoil_plan(random: &mut Random, plan: &mut Plan, refusal: u8) {
     match refusal {
         1 => plan.cores = random.pick(&[0, 9, 10, 255, plan.cores | 16]),
         2 => spoil_slots(random, plan),
         3 => spoil_counts(random, plan),
         4 => spoil_periods(random, plan),
-        5 => spoil_sum(random, plan),
-        _ => take_own_budget(random, plan, core),
+        _ => spoil_sum(random, plan),
     }
 }
 
@@ -102,20 +100,6 @@ fn spoil_sum(random: &mut Random, plan: &mut Plan) {
             plan.budgets[first + 1] = wanted.saturating_sub(others).min(65_535) as u16;
         }
     }
-}
-
-/// Gives the core's budget in one interval to another core.
-fn take_own_budget(random: &mut Random, plan: &mut Plan, core: u8) {
-    let cores = usize::from(plan.cores);
-    let own = usize::from(core).wrapping_sub(1);
-    if !(2..=8).contains(&cores) || own >= cores || plan.budgets.len() < cores {
-        return;
-    }
-    let interval = random.below((plan.budgets.len() / cores) as u64) as usize;
-    let budgets = &mut plan.budgets[interval * cores..(interval + 1) * cores];
-    let other = (own + random.between(1, cores as u64 - 1) as usize) % cores;
-    budgets[other] = budgets[other].saturating_add(budgets[own]);
-    budgets[own] = 0;
 }
 
 /// Some of the given refusals, mostly one or two; the list is in the order in

@@ -52,24 +52,33 @@ fn span_of_cycles(random: &mut Random, seen: &CorePlan) -> u64 {
     span.clamp(1, seen.reach)
 }
 
-/// A span of 1 to T: the ends, the ends of intervals and beside them, or any.
+/// A span of 1 to T: the ends, the borders of intervals and beside them, or any.
 fn span_in_cycle(random: &mut Random, seen: &CorePlan) -> u64 {
     let total = seen.total_periods();
-    let lengths = &seen.plan.lengths;
-    let ended = random.between(1, lengths.len() as u64) as usize;
-    let at_end: u64 = lengths[..ended]
-        .iter()
-        .map(|&length| u64::from(length))
-        .sum();
-    match random.below(7) {
+    let border = some_border(random, seen);
+    let span = match random.below(7) {
         0 => 1,
         1 => total,
-        2 => at_end,
-        3 => (at_end + 1).min(total),
-        4 => at_end.max(2) - 1,
+        2 => border,
+        3 => border + 1,
+        4 => border.max(1) - 1,
         5 => random.between(1, total),
         _ => random.any_size(1, total),
+    };
+    span.clamp(1, total)
+}
+
+/// The periods before the end of an interval, or before the begin of one in
+/// which the core is parked.
+fn some_border(random: &mut Random, seen: &CorePlan) -> u64 {
+    let lengths = &seen.plan.lengths;
+    let mut ended = random.between(1, lengths.len() as u64) as usize;
+    let parked = seen.parked_intervals();
+    if !parked.is_empty() && random.one_in(2) {
+        ended = random.pick(&parked) + random.below(2) as usize;
     }
+    let before = lengths[..ended].iter();
+    before.map(|&length| u64::from(length)).sum()
 }
 
 /// Requests for a span: none, all that fit and one more, whole corners in
@@ -100,6 +109,9 @@ fn at_corners(random: &mut Random, seen: &CorePlan, span: u64) -> u64 {
 
 /// A workload whose values are within their bounds.
 pub fn aimed(random: &mut Random, seen: &CorePlan) -> Workload {
+    if seen.is_parked() && random.one_in(4) {
+        return waiting(random, seen);
+    }
     if !seen.is_repeating() {
         return of_any_kind(random, seen);
     }
@@ -111,6 +123,18 @@ pub fn aimed(random: &mut Random, seen: &CorePlan) -> Workload {
         drawn.horizon = some_span(random, seen) as u16;
     }
     drawn
+}
+
+/// Little work that waits while the core is parked: each of these periods costs
+/// a round, or few of them do.
+fn waiting(random: &mut Random, seen: &CorePlan) -> Workload {
+    let slots = u64::from(seen.plan.slots_per_period);
+    let requests = random.below(4).min(seen.capacity(seen.reach));
+    let horizon = match random.one_in(2) {
+        true => seen.reach,
+        false => some_span(random, seen),
+    };
+    workload(seen, random.any_size(1, 2 * slots), requests, horizon)
 }
 
 fn of_any_kind(random: &mut Random, seen: &CorePlan) -> Workload {
@@ -205,19 +229,20 @@ fn fitting_with(random: &mut Random, seen: &CorePlan, span: u64, mut requests: u
     let curves = Curves::new(seen);
     let computing = loop {
         let needed = requests + curves.greatest_stall(seen, span, requests);
-        if needed < slots {
+        if needed < slots || requests == 0 {
             break slots - needed;
         }
-        requests -= requests.div_ceil(fewer).max(1);
+        requests -= requests.div_ceil(fewer);
     };
     let computing = (computing + random.pick(&[1, 1, 1, 2, 0])).saturating_sub(1);
     let horizon = random.pick(&[span - 1, span, span, span + 1, seen.reach]);
     workload(seen, computing, requests, horizon)
 }
 
-/// For a core with a budget of 1: a search of very many rounds.
+/// For a core with a budget of 1, or parked: a search of very many rounds.
 pub fn of_many_rounds(random: &mut Random, seen: &CorePlan) -> Workload {
-    let requests = random.between(seen.reach / 3, seen.reach);
+    let capacity = seen.capacity(seen.reach);
+    let requests = random.between(capacity / 3, capacity);
     workload(seen, random.any_size(1, 100_000), requests, seen.reach)
 }
 

@@ -13,7 +13,7 @@ mod task;
 use std::process::ExitCode;
 
 use random::Random;
-use run::Run;
+use run::{Period, Run};
 use search::Search;
 use task::Task;
 
@@ -29,22 +29,39 @@ const MAKERS: [&str; 6] = ["greedy", "lazy", "sparing", "spread", "random", "sea
 /// The longest run that each maker made; `None`: it made none.
 type Longest = [Option<usize>; MAKERS.len()];
 
+/// Tasks of some kind: how many, for how many of these all runs were searched,
+/// and for how many a run reached the span.
+#[derive(Default)]
+struct Examined {
+    tasks: usize,
+    searched: usize,
+    reached: usize,
+}
+
+impl Examined {
+    fn add(&mut self, searched: bool, reached: bool) {
+        self.tasks += 1;
+        self.searched += usize::from(searched);
+        self.reached += usize::from(reached);
+    }
+}
+
 #[derive(Default)]
 struct Tally {
     asked: usize,
-    tasks: usize,
     runs: usize,
     too_long: usize,
     full: usize,
     unfinished: usize,
     unlawful: usize,
-    reached: usize,
-    searched: usize,
-    /// Tasks on repeating plans whose span has more periods than one cycle,
-    /// and how many of these were reached and searched.
-    past_cycle: usize,
-    past_cycle_reached: usize,
-    past_cycle_searched: usize,
+    all: Examined,
+    /// Those on repeating plans whose span has more periods than one cycle.
+    past_cycle: Examined,
+    /// Those with parked periods in the span.
+    parked: Examined,
+    /// Runs that compute in a parked period, and runs with one of stall alone.
+    parked_computing: usize,
+    parked_stall: usize,
     /// The largest number of full cycles in a span.
     cycles: usize,
     rows: Vec<String>,
@@ -52,20 +69,19 @@ struct Tally {
 
 impl Tally {
     fn examine(&mut self, number: usize, task: &Task, random: &mut Random) {
-        self.tasks += 1;
         let mut longest: Longest = [None; MAKERS.len()];
         for (maker, run) in runs(task, random) {
             self.judge(number, task, MAKERS[maker], &run);
             longest[maker] = longest[maker].max(Some(run.len()));
         }
-        let searched = usize::from(longest[MAKERS.len() - 1].is_some());
-        let reached = usize::from(longest.iter().max() >= Some(&Some(task.span)));
-        self.searched += searched;
-        self.reached += reached;
+        let searched = longest[MAKERS.len() - 1].is_some();
+        let reached = longest.iter().max() >= Some(&Some(task.span));
+        self.all.add(searched, reached);
         if task.span > task.total_periods() {
-            self.past_cycle += 1;
-            self.past_cycle_reached += reached;
-            self.past_cycle_searched += searched;
+            self.past_cycle.add(searched, reached);
+        }
+        if task.parked_periods() > 0 {
+            self.parked.add(searched, reached);
         }
         self.cycles = self.cycles.max(task.span / task.total_periods());
         // Where the greedy run lasts as long, the stall makes no difference.
@@ -78,6 +94,8 @@ impl Tally {
         self.runs += 1;
         let full = run::is_full_span(task, run);
         self.full += usize::from(full);
+        self.parked_computing += usize::from(run::computes_parked(task, run));
+        self.parked_stall += usize::from(!run.iter().all(Period::has_work));
         let finding = if let Some(rule) = run::broken_rule(task, run) {
             self.unlawful += 1;
             format!("is not lawful: {rule}")
@@ -103,26 +121,38 @@ impl Tally {
     }
 
     fn print(&self) {
-        let columns = "question | cores | Q | T | repeats | computing | requests | span";
+        let columns = "question | cores | Q | T | repeats | computing | requests | span | parked";
         println!("| {columns} | {} |", MAKERS.join(" | "));
-        println!("|{}", "---|".repeat(8 + MAKERS.len()));
+        println!("|{}", "---|".repeat(9 + MAKERS.len()));
         for row in &self.rows {
             println!("{row}");
         }
+        self.print_sums();
+    }
+
+    fn print_sums(&self) {
         println!(
             "{} questions, {} with a span, {} of these searched over all runs",
-            self.asked, self.tasks, self.searched
+            self.asked, self.all.tasks, self.all.searched
         );
         println!(
             "{} lawful runs, {} of them full over the span; the span was reached for {} of {}",
             self.runs - self.unlawful,
             self.full,
-            self.reached,
-            self.tasks
+            self.all.reached,
+            self.all.tasks
         );
         println!(
             "{} spans past one cycle, {} of them searched, {} reached; {} full cycles at most",
-            self.past_cycle, self.past_cycle_searched, self.past_cycle_reached, self.cycles
+            self.past_cycle.tasks, self.past_cycle.searched, self.past_cycle.reached, self.cycles
+        );
+        println!(
+            "{} spans with parked periods: {} searched, {} reached",
+            self.parked.tasks, self.parked.searched, self.parked.reached
+        );
+        println!(
+            "in parked periods {} runs compute, and {} runs only stall",
+            self.parked_computing, self.parked_stall
         );
         println!(
             "{} runs too long, {} full with work left, {} not lawful",
@@ -144,7 +174,8 @@ fn runs(task: &Task, random: &mut Random) -> Vec<(usize, Run)> {
     }
     if let Some(search) = Search::new(task) {
         runs.push((5, search.longest()));
-        runs.extend(search.full_with_least_work().map(|run| (5, run)));
+        let full = search.full_with_least_work(task.span);
+        runs.extend(full.map(|run| (5, run)));
     }
     runs
 }
@@ -153,8 +184,13 @@ fn row(number: usize, task: &Task, longest: &Longest) -> String {
     let periods = task.total_periods();
     let repeats = if task.repeating { "yes" } else { "no" };
     let mut row = format!(
-        "| {number} | {} | {} | {periods} | {repeats} | {} | {} | {} |",
-        task.cores, task.slots, task.computing, task.requests, task.span
+        "| {number} | {} | {} | {periods} | {repeats} | {} | {} | {} | {} |",
+        task.cores,
+        task.slots,
+        task.computing,
+        task.requests,
+        task.span,
+        task.parked_periods()
     );
     for made in longest {
         row += &made.map_or(" - |".to_string(), |made| format!(" {made} |"));

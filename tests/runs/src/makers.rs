@@ -16,7 +16,8 @@ type Wish = (u64, u64);
 
 /// Makes a run by asking for a wish before each period. A wish that would not
 /// leave the period full is raised to the fewest requests that do; where none
-/// do, the period is the last.
+/// do, the period is the last. A parked period can always be filled with stall,
+/// but a run does not end with such a period.
 fn carried_out(task: &Task, mut wish: impl FnMut(&Left) -> Wish) -> Run {
     let mut left = Left {
         period: 0,
@@ -35,6 +36,9 @@ fn carried_out(task: &Task, mut wish: impl FnMut(&Left) -> Wish) -> Run {
         if full.is_none() {
             break;
         }
+    }
+    while run.last().is_some_and(|period| !period.has_work()) {
+        run.pop();
     }
     run
 }
@@ -90,7 +94,7 @@ pub fn lazy(task: &Task) -> Run {
 /// As much stall for each request as early as can be.
 pub fn sparing(task: &Task) -> Run {
     carried_out(task, |left| {
-        let mut best = (0, 0);
+        let mut best = (0, task.raw_stall(left.period, 0));
         for rate in 1..=most_requests(task, left) {
             let stall = task.raw_stall(left.period, rate);
             if stall * best.0 >= best.1 * rate {

@@ -14,6 +14,11 @@ impl Period {
     pub fn slots(&self) -> u64 {
         self.computing + self.requests + self.stall
     }
+
+    /// A period without work is stall alone: the core is parked in it.
+    pub fn has_work(&self) -> bool {
+        self.computing + self.requests > 0
+    }
 }
 
 pub type Run = Vec<Period>;
@@ -42,7 +47,7 @@ pub fn broken_rule(task: &Task, run: &Run) -> Option<&'static str> {
         if period.slots() > task.slots || (!last && period.slots() < task.slots) {
             return Some("sum not Q");
         }
-        if last && period.computing + period.requests == 0 {
+        if last && !period.has_work() {
             return Some("no work in the last period");
         }
     }
@@ -50,6 +55,12 @@ pub fn broken_rule(task: &Task, run: &Run) -> Option<&'static str> {
         return Some("computing total");
     }
     (requests(run) > task.requests).then_some("request total")
+}
+
+/// Does the run compute in a period in which the core is parked?
+pub fn computes_parked(task: &Task, run: &Run) -> bool {
+    let mut periods = run.iter().enumerate();
+    periods.any(|(number, period)| task.budget(number) == 0 && period.computing > 0)
 }
 
 /// "Ends within", first part: has the run at most as many periods as the span?

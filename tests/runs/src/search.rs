@@ -24,7 +24,8 @@ impl<'a> Search<'a> {
     pub fn new(task: &'a Task) -> Option<Self> {
         let budgets = (0..task.total_periods()).map(|period| task.budget(period));
         let most = budgets.max().unwrap_or(0).min(task.requests);
-        let steps = (task.span as u64).checked_mul(task.requests + 1)?;
+        let periods = periods_to_fill(task);
+        let steps = (periods as u64).checked_mul(task.requests + 1)?;
         if steps.checked_mul(most + 1)? > MOST_STEPS {
             return None;
         }
@@ -36,7 +37,7 @@ impl<'a> Search<'a> {
             least: vec![none],
             chosen: vec![vec![0; requests + 1]],
         };
-        for period in 0..task.span {
+        for period in 0..periods {
             search.add_period(period);
         }
         Some(search)
@@ -91,41 +92,53 @@ impl<'a> Search<'a> {
         within.map(|(requests, _)| requests)
     }
 
-    /// The longest run, of at most one period more than the span.
+    /// The longest run, of at most one period more than were filled. A full
+    /// period with the least computing has no work if it is parked; a run that
+    /// ends with work in it is one period more than those before it.
     pub fn longest(&self) -> Run {
-        for periods in (0..=self.task.span).rev() {
+        for periods in (0..self.least.len()).rev() {
             for requests in self.makeable(periods) {
                 if let Some(last) = self.one_more(periods, requests) {
                     let run = self.full_periods(periods, requests);
                     return run.into_iter().chain([last]).collect();
                 }
             }
-            if let Some(requests) = self.makeable(periods).next() {
-                return self.full_periods(periods, requests);
+            if let Some(run) = self.full_with_least_work(periods) {
+                return run;
             }
         }
         Run::new()
     }
 
     /// A last period with one slot of work, if the run may go on and any work
-    /// is left.
+    /// is left that can be done in it.
     fn one_more(&self, periods: usize, requests: usize) -> Option<Period> {
         let ended = periods == self.task.most_periods();
-        let computing = u64::from(self.least[periods][requests] < self.task.computing);
-        let wanted = u64::from(computing == 0 && (requests as u64) < self.task.requests);
-        let worked = computing + wanted > 0;
-        (worked && !ended).then_some(Period {
-            computing,
-            requests: wanted,
+        let computing = self.least[periods][requests] < self.task.computing;
+        let wanted = (requests as u64) < self.task.requests && self.task.budget(periods) > 0;
+        let last = Period {
+            computing: u64::from(computing),
+            requests: u64::from(wanted && !computing),
             stall: 0,
-        })
+        };
+        (last.has_work() && !ended).then_some(last)
     }
 
-    /// A run of as many full periods as the span that does the least work.
-    pub fn full_with_least_work(&self) -> Option<Run> {
-        let span = self.task.span;
-        let work = |&requests: &usize| self.least[span][requests] + requests as u64;
-        let requests = self.makeable(span).min_by_key(work)?;
-        Some(self.full_periods(span, requests))
+    /// A run of so many full periods that does the least work, if one ends with
+    /// work.
+    pub fn full_with_least_work(&self, periods: usize) -> Option<Run> {
+        let work = |&requests: &usize| self.least[periods][requests] + requests as u64;
+        let requests = self.makeable(periods).min_by_key(work)?;
+        let run = self.full_periods(periods, requests);
+        let ends = run.last().is_none_or(Period::has_work);
+        ends.then_some(run)
     }
+}
+
+/// The span, and the parked periods behind it: a request that is left after the
+/// span can be made in the period after these, if the run may be as long.
+fn periods_to_fill(task: &Task) -> usize {
+    let mut behind = task.span..task.most_periods();
+    let next = behind.find(|&period| task.budget(period) > 0);
+    next.unwrap_or(task.span)
 }

@@ -93,6 +93,13 @@ impl Task {
         self.interval_of[period % self.interval_of.len()]
     }
 
+    /// The periods of the span in which the core is parked.
+    pub fn parked_periods(&self) -> usize {
+        (0..self.span)
+            .filter(|&period| self.budget(period) == 0)
+            .count()
+    }
+
     /// The core's budget in a period.
     pub fn budget(&self, period: usize) -> u64 {
         self.raw_stalls(period).len() as u64 - 1
@@ -107,7 +114,8 @@ impl Task {
     }
 }
 
-/// 004, equation 2, at each rate of 0 to the budget.
+/// 004, equation 2, at each rate of 0 to the budget. A parked core has rate 0
+/// alone, and the whole of Q there.
 fn raw_stalls(slots: u64, budgets: &[u64], own: usize) -> Vec<u64> {
     let budget = budgets[own];
     let mut stalls = Vec::new();

@@ -28,7 +28,7 @@ impl Envelope {
             .map(|rate| u64::from(seen.raw_stall(interval, rate)))
             .collect();
         let last = raw.len() - 1;
-        let mut corners = vec![(0, 0)];
+        let mut corners = vec![(0, raw[0])];
         let mut corner = 0;
         while corner < last {
             let mut next = corner + 1;
@@ -48,18 +48,16 @@ impl Envelope {
     }
 
     /// The stall of `placed` requests in `periods` periods, times `divisor`,
-    /// which every segment's run divides.
+    /// which every segment's run divides: the last corner that they reach, and
+    /// a part of the segment after it, if there is one.
     fn stall(&self, periods: u64, placed: u64, divisor: u128) -> u128 {
-        if periods == 0 {
-            return 0;
-        }
-        let covering = self.corners.windows(2).find(|pair| {
-            let (from, to) = (pair[0].0, pair[1].0);
-            periods * from <= placed && placed <= periods * to
-        });
-        let pair = covering.expect("at most periods times budget");
-        let ((from, stall_from), (to, stall_to)) = (pair[0], pair[1]);
+        let reached = |&(rate, _): &(u64, u64)| periods * rate <= placed;
+        let next = self.corners.partition_point(reached);
+        let (from, stall_from) = self.corners[next - 1];
         let whole = u128::from(periods * stall_from) * divisor;
+        let Some((to, stall_to)) = self.corners.get(next) else {
+            return whole;
+        };
         let part = u128::from((placed - periods * from) * (stall_to - stall_from));
         whole + part * (divisor / u128::from(to - from))
     }

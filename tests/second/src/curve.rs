@@ -13,7 +13,7 @@ pub struct Corner {
 /// budget each other core adds the smaller of the rate and its budget, so the
 /// raw stall is straight between the other cores' budgets, up to one request
 /// below the own budget; the own budget itself stands apart. No rate between
-/// two of these can be a corner.
+/// two of these can be a corner. A parked core has rate 0 alone.
 fn bending_rates(seen: &CorePlan, interval: usize) -> Vec<u32> {
     let own = seen.own_budget(interval);
     let budgets = seen.plan.interval_budgets(interval).iter();
@@ -21,7 +21,8 @@ fn bending_rates(seen: &CorePlan, interval: usize) -> Vec<u32> {
         .map(|&budget| u32::from(budget))
         .filter(|&budget| budget < own)
         .collect();
-    rates.extend([0, own - 1, own]);
+    rates.extend([0, own]);
+    rates.extend(own.checked_sub(1));
     rates.sort_unstable();
     rates.dedup();
     rates

@@ -18,6 +18,8 @@ pub struct Steepest<'a> {
     lengths: &'a [u16],
     /// T, the length of one cycle.
     cycle: u32,
+    /// The raw stall at 0 requests in one period of each interval.
+    raw_at_0: Vec<u64>,
     segments: Vec<Segment>,
     /// The share of each interval, in periods, at the span last filled.
     shares: Vec<u64>,
@@ -25,9 +27,12 @@ pub struct Steepest<'a> {
 
 impl<'a> Steepest<'a> {
     pub fn new(seen: &CorePlan<'a>) -> Self {
+        let mut raw_at_0 = Vec::new();
         let mut segments = Vec::new();
         for interval in 0..seen.intervals() {
-            for pair in corners(seen, interval).windows(2) {
+            let corners = corners(seen, interval);
+            raw_at_0.push(u64::from(corners[0].stall));
+            for pair in corners.windows(2) {
                 segments.push(Segment {
                     interval,
                     rise: u64::from(pair[1].stall - pair[0].stall),
@@ -40,6 +45,7 @@ impl<'a> Steepest<'a> {
         Steepest {
             lengths: seen.plan.lengths,
             cycle: seen.plan.total_periods,
+            raw_at_0,
             segments,
             shares: vec![0; seen.intervals()],
         }
@@ -61,14 +67,16 @@ impl<'a> Steepest<'a> {
     }
 
     /// Places as many of the requests as fit, steepest segments first, and
-    /// gives the total stall rounded up. Within one interval the slopes fall,
-    /// so its segments are filled in their own order; only the last segment
-    /// filled can be filled in part, so there is one fraction at most.
+    /// gives the total stall rounded up: that of the shares without requests,
+    /// and what the requests add. Within one interval the slopes fall, so its
+    /// segments are filled in their own order; only the last segment filled can
+    /// be filled in part, so there is one fraction at most.
     pub fn fill(&mut self, span: u32, requests: u32, placement: &mut [u32]) -> u64 {
         self.divide(span);
         placement.fill(0);
         let mut left = u64::from(requests);
-        let mut stall = 0;
+        let without_requests = self.shares.iter().zip(&self.raw_at_0);
+        let mut stall = without_requests.map(|(share, each)| share * each).sum();
         for segment in &self.segments {
             let periods = self.shares[segment.interval];
             let placed = left.min(periods * segment.run);
@@ -92,7 +100,7 @@ pub struct Question<'a> {
 }
 
 impl<'a> Question<'a> {
-    /// Judges 1 to 7, 9, 10 and 11.
+    /// Judges 1 to 6, 9, 10 and 11.
     pub fn judge(&self, room: usize) -> Result<CorePlan<'a>, Refusal> {
         let seen = self.plan.judge()?.seen_from(self.core)?;
         demand(self.requests <= MOST_OF_A_WORKLOAD, Refusal::Requests)?;

@@ -1,6 +1,7 @@
-//! Units and bounds: a plan of budgets, and the refusals 1 to 7 judged on it.
+//! Units and bounds: a plan of budgets, and the refusals 1 to 6 judged on it.
 //! A plan may be marked as repeating (request 2026-01): it then starts over
-//! each time its last period has ended.
+//! each time its last period has ended. A core may have a budget of 0 in some
+//! intervals (request 2026-02): it is parked there.
 
 pub const MOST_CORES: u8 = 8;
 pub const MOST_SLOTS_PER_PERIOD: u32 = 65_535;
@@ -9,7 +10,8 @@ pub const MOST_PERIODS: u32 = 65_535;
 /// The largest computing, and the largest number of requests.
 pub const MOST_OF_A_WORKLOAD: u32 = 4_294_836_225;
 
-/// Why a question is refused; the number is the one of the public table.
+/// Why a question is refused; the number is the one of the public table. Its 7
+/// never occurs since request 2026-02.
 #[derive(Clone, Copy, PartialEq, Eq, Debug)]
 pub enum Refusal {
     Cores = 1,
@@ -18,7 +20,6 @@ pub enum Refusal {
     Periods = 4,
     BudgetSum = 5,
     Core = 6,
-    NoBudget = 7,
     Computing = 8,
     Requests = 9,
     Horizon = 10,
@@ -148,21 +149,18 @@ impl<'a> Plan<'a> {
         &self.budgets[interval * self.cores..(interval + 1) * self.cores]
     }
 
-    /// Judges 6 and 7 and gives the plan as seen from that core.
+    /// Judges 6 and gives the plan as seen from that core.
     pub fn seen_from(self, core: u8) -> Result<CorePlan<'a>, Refusal> {
         let core = usize::from(core);
         demand((1..=self.cores).contains(&core), Refusal::Core)?;
-        let seen = CorePlan {
+        Ok(CorePlan {
             plan: self,
             core: core - 1,
-        };
-        let always = (0..self.lengths.len()).all(|interval| seen.own_budget(interval) >= 1);
-        demand(always, Refusal::NoBudget)?;
-        Ok(seen)
+        })
     }
 }
 
-/// A lawful plan with the core under analysis, which has a budget everywhere.
+/// A lawful plan with the core under analysis.
 #[derive(Clone, Copy)]
 pub struct CorePlan<'a> {
     pub plan: Plan<'a>,
@@ -181,7 +179,8 @@ impl CorePlan<'_> {
     }
 
     /// Raw stall in one period of an interval, at `rate` requests of at most
-    /// the core's budget there (004, equation 2).
+    /// the core's budget there (004, equation 2). Where the core is parked that
+    /// is the whole of Q, at 0 requests.
     pub fn raw_stall(&self, interval: usize, rate: u32) -> u32 {
         let own = self.own_budget(interval);
         if rate == own {

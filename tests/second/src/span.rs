@@ -21,7 +21,7 @@ pub struct Answer {
 }
 
 impl<'a> Question<'a> {
-    /// Judges 1 to 11.
+    /// Judges 1 to 6 and 8 to 11.
     pub fn judge(&self, room: usize) -> Result<CorePlan<'a>, Refusal> {
         let seen = self.plan.judge()?.seen_from(self.core)?;
         let computing = 1..=MOST_OF_A_WORKLOAD;

@@ -1,5 +1,6 @@
 //! The numbers 01 works by hand, the listing, and what follows from them; then
-//! the numbers worked for plans that repeat (request 2026-01).
+//! the numbers worked for plans that repeat (request 2026-01) and for a core
+//! that is parked (2026-02).
 
 use crate::brute::Cycle;
 use crate::curve::{corners, corners_question, raw_question, Corner};
@@ -125,10 +126,8 @@ fn listing_p10() {
 
 #[test]
 fn refused_budgets() {
-    let raw = |budgets: &[u16], core| raw_question(PLAIN, budgets, core, 0);
-    assert_eq!(raw(&[2, 2, 5, 6], 1), Err(Refusal::BudgetSum));
-    assert_eq!(raw(&[0, 4, 6, 6], 1), Err(Refusal::NoBudget));
-    assert_eq!(raw(&[0, 4, 6, 6], 2), Ok(0));
+    let raw = raw_question(PLAIN, &[2, 2, 5, 6], 1, 0);
+    assert_eq!(raw, Err(Refusal::BudgetSum));
 }
 
 #[test]
@@ -161,7 +160,7 @@ fn check_corners(budgets: [u16; 3]) {
     };
     let seen = given.judge().ok().unwrap().seen_from(1).ok().unwrap();
     let kept = corners(&seen, 0);
-    assert_eq!(kept[0].rate, 0);
+    assert_eq!((kept[0].rate, kept[0].stall), (0, seen.raw_stall(0, 0)));
     assert_eq!(kept[kept.len() - 1].rate, u32::from(budgets[0]));
     let rise = |pair: &[Corner]| pair[1].stall - pair[0].stall;
     let run = |pair: &[Corner]| pair[1].rate - pair[0].rate;
@@ -181,7 +180,7 @@ fn check_corners(budgets: [u16; 3]) {
 #[test]
 fn corners_of_all_small_budgets() {
     for slots in 1..=24 {
-        for own in 1..=slots {
+        for own in 0..=slots {
             for other in 0..=slots - own {
                 check_corners([own, other, slots - own - other]);
             }
@@ -231,62 +230,77 @@ fn both_ways(kind: u8, body: &[u8]) -> String {
     by_slope
 }
 
-/// The answer on core 3 of a plan of 4 cores and Q = 16 to a span question, if
-/// computing is given, or to a placement question.
-fn answered(
+/// A plan with Q = 16, and the core under analysis.
+struct Asked<'a> {
     mark: u8,
-    (lengths, budgets): (&[u16], &[u16]),
-    computing: Option<u32>,
-    requests: u32,
-    periods: u16,
-) -> String {
-    let mut body = vec![4, 3, 16, 0, 0, 0, mark];
-    body.extend(computing.into_iter().flat_map(u32::to_le_bytes));
-    body.extend(requests.to_le_bytes());
-    body.extend(periods.to_le_bytes());
-    body.extend([lengths.len() as u8; 2]);
-    body.extend(in_bytes(lengths));
-    body.extend(in_bytes(budgets));
-    both_ways(if computing.is_some() { 4 } else { 3 }, &body)
+    core: u8,
+    lengths: &'a [u16],
+    budgets: &'a [u16],
 }
 
-/// Span, stall, rounds and placement on the listing's plan.
-fn listed_span(mark: u8, computing: u32, requests: u32, horizon: u16) -> String {
-    let plan = (&LISTED_LENGTHS[..], &LISTED_BUDGETS[..]);
-    answered(mark, plan, Some(computing), requests, horizon)
+impl Asked<'_> {
+    /// Span, stall, rounds and placement.
+    fn span(&self, computing: u32, requests: u32, horizon: u16) -> String {
+        let mut values = computing.to_le_bytes().to_vec();
+        values.extend(requests.to_le_bytes());
+        both_ways(4, &self.body(&values, horizon))
+    }
+
+    /// Stall and placement at a given span.
+    fn placement(&self, requests: u32, span: u16) -> String {
+        both_ways(3, &self.body(&requests.to_le_bytes(), span))
+    }
+
+    fn body(&self, values: &[u8], periods: u16) -> Vec<u8> {
+        let cores = self.budgets.len() / self.lengths.len();
+        let mut body = vec![cores as u8, self.core, 16, 0, 0, 0, self.mark];
+        body.extend(values);
+        body.extend(periods.to_le_bytes());
+        body.extend([self.lengths.len() as u8; 2]);
+        body.extend(in_bytes(self.lengths));
+        body.extend(in_bytes(self.budgets));
+        body
+    }
+}
+
+/// Core 3 of the listing's plan.
+fn listed(mark: u8) -> Asked<'static> {
+    Asked {
+        mark,
+        core: 3,
+        lengths: &LISTED_LENGTHS,
+        budgets: &LISTED_BUDGETS,
+    }
 }
 
 #[test]
 fn repeating_spans() {
     for mark in [0, MARK, 255] {
-        assert_eq!(listed_span(mark, 10, 10, 5), "span 0 4 30 3 : 2 8");
-        assert_eq!(listed_span(mark, 10, 10, 3), "span 12 0 0 0 : 7 7");
-        assert_eq!(listed_span(mark, 10, 10, 0), "span 10 0 0 0 : 7 7");
+        assert_eq!(listed(mark).span(10, 10, 5), "span 0 4 30 3 : 2 8");
+        assert_eq!(listed(mark).span(10, 10, 3), "span 12 0 0 0 : 7 7");
+        assert_eq!(listed(mark).span(10, 10, 0), "span 10 0 0 0 : 7 7");
     }
     for horizon in [12, 13, 65_535] {
-        let line = listed_span(MARK, 40, 35, horizon);
+        let line = listed(MARK).span(40, 35, horizon);
         assert_eq!(line, "span 0 12 105 4 : 6 29");
     }
-    assert_eq!(listed_span(MARK, 40, 35, 11), "span 12 0 0 0 : 7 7");
+    assert_eq!(listed(MARK).span(40, 35, 11), "span 12 0 0 0 : 7 7");
     for horizon in [6, 11, 65_535] {
-        assert_eq!(listed_span(0, 40, 35, horizon), "span 10 0 0 0 : 7 7");
+        assert_eq!(listed(0).span(40, 35, horizon), "span 10 0 0 0 : 7 7");
     }
-    let line = listed_span(MARK, 100, 100, 65_535);
+    let line = listed(MARK).span(100, 100, 65_535);
     assert_eq!(line, "span 0 32 300 4 : 14 86");
 }
 
 #[test]
 fn repeating_placements() {
-    let placed = |mark, requests, span| {
-        let plan = (&LISTED_LENGTHS[..], &LISTED_BUDGETS[..]);
-        answered(mark, plan, None, requests, span)
-    };
-    assert_eq!(placed(MARK, 25, 12), "placement 0 75 : 6 19");
-    assert_eq!(placed(MARK, 25, 65_535), "placement 0 75 : 25 0");
-    assert_eq!(placed(MARK, 25, 0), "placement 10 0 : 7 7");
-    assert_eq!(placed(0, 25, 6), "placement 10 0 : 7 7");
+    let placed = |mark, span| listed(mark).placement(25, span);
+    assert_eq!(placed(MARK, 12), "placement 0 75 : 6 19");
+    assert_eq!(placed(MARK, 65_535), "placement 0 75 : 25 0");
+    assert_eq!(placed(MARK, 0), "placement 10 0 : 7 7");
+    assert_eq!(placed(0, 6), "placement 10 0 : 7 7");
     for span in 1..=5 {
-        assert_eq!(placed(MARK, 25, span), placed(0, 25, span));
+        assert_eq!(placed(MARK, span), placed(0, span));
     }
 }
 
@@ -312,10 +326,14 @@ fn repeating_shares() {
 /// P4 and P5 again, on a cycle of one period.
 #[test]
 fn repeating_period() {
-    let asked = |horizon| answered(MARK, (&[1], &BUDGETS), Some(40), 35, horizon);
-    assert_eq!(asked(20), "span 0 10 85 3 : 35");
-    assert_eq!(asked(10), "span 0 10 85 3 : 35");
-    assert_eq!(asked(9), "span 12 0 0 0 : 7");
+    let period = Asked {
+        lengths: &[1],
+        budgets: &BUDGETS,
+        ..listed(MARK)
+    };
+    assert_eq!(period.span(40, 35, 20), "span 0 10 85 3 : 35");
+    assert_eq!(period.span(40, 35, 10), "span 0 10 85 3 : 35");
+    assert_eq!(period.span(40, 35, 9), "span 12 0 0 0 : 7");
 }
 
 #[test]
@@ -366,4 +384,94 @@ fn read_plan_is_plain() {
     let mut marked = LISTED_FILE;
     marked[5] = MARK;
     assert_eq!(read(&marked), "read 23 0 0 0 0 0 0");
+}
+
+/// 2 periods of 0 4 6 6, 3 of 2 2 5 7 and 1 of 0 5 5 6: core 1 is parked in
+/// the first interval and in the last.
+const PARKED_LENGTHS: [u16; 3] = [2, 3, 1];
+const PARKED_BUDGETS: [u16; 12] = [0, 4, 6, 6, 2, 2, 5, 7, 0, 5, 5, 6];
+
+fn parked(mark: u8) -> Asked<'static> {
+    Asked {
+        mark,
+        core: 1,
+        lengths: &PARKED_LENGTHS,
+        budgets: &PARKED_BUDGETS,
+    }
+}
+
+#[test]
+fn parked_curve() {
+    let budgets = &PARKED_BUDGETS[..4];
+    let raw = |core, rate| raw_question(PLAIN, budgets, core, rate);
+    assert_eq!(raw(1, 0), Ok(16));
+    assert_eq!(raw(1, 1), Err(Refusal::RateAboveBudget));
+    assert_eq!(raw(2, 0), Ok(0));
+    let mut place = [7; 3];
+    let count = corners_question(PLAIN, budgets, 1, &mut place);
+    assert_eq!((count, place), (Ok(1), [0, 7, 7]));
+    let count = corners_question(PLAIN, budgets, 1, &mut []);
+    assert_eq!(count, Err(Refusal::NoRoom));
+    let count = corners_question(PLAIN, budgets, 2, &mut place);
+    assert_eq!((count, place), (Ok(2), [0, 4, 7]));
+}
+
+#[test]
+fn parked_spans() {
+    let span = |computing, requests| parked(0).span(computing, requests, 6);
+    assert_eq!(span(1, 0), "span 0 3 32 3 : 0 0 0");
+    assert_eq!(span(17, 0), "span 0 4 32 2 : 0 0 0");
+    assert_eq!(span(1, 2), "span 0 4 46 4 : 0 2 0");
+    assert_eq!(span(10, 1), "span 0 4 39 4 : 0 1 0");
+    assert_eq!(span(1, 6), "span 12 0 0 0 : 7 7 7");
+    assert_eq!(parked(0).span(1, 0, 3), "span 0 3 32 3 : 0 0 0");
+    assert_eq!(parked(0).span(1, 0, 2), "span 12 0 0 0 : 7 7 7");
+}
+
+#[test]
+fn parked_placements() {
+    let placed = |span| parked(0).placement(2, span);
+    assert_eq!(placed(1), "placement 0 16 : 0 0 0");
+    assert_eq!(placed(2), "placement 0 32 : 0 0 0");
+    assert_eq!(placed(3), "placement 0 46 : 0 2 0");
+    assert_eq!(placed(5), "placement 0 46 : 0 2 0");
+    assert_eq!(placed(6), "placement 0 62 : 0 2 0");
+    assert_eq!(parked(0).placement(0, 6), "placement 0 48 : 0 0 0");
+}
+
+#[test]
+fn parked_in_every_cycle() {
+    let line = parked(MARK).span(20, 4, 65_535);
+    assert_eq!(line, "span 0 9 108 6 : 0 4 0");
+}
+
+#[test]
+fn parked_everywhere() {
+    let plan = Asked {
+        mark: 0,
+        core: 1,
+        lengths: &[5],
+        budgets: &[0, 16],
+    };
+    assert_eq!(plan.span(1, 0, 5), "span 12 0 0 0 : 7");
+    assert_eq!(plan.placement(3, 5), "placement 0 80 : 0");
+}
+
+#[test]
+fn parked_listing() {
+    let file = PlanFile {
+        head: PLAIN,
+        lengths: PARKED_LENGTHS.to_vec(),
+        budgets: PARKED_BUDGETS.to_vec(),
+        workload_cores: vec![1, 1, 2],
+        computing: vec![1, 1, 1],
+        requests: vec![2, 6, 0],
+        horizons: vec![6, 6, 6],
+    };
+    let lines = "plan 4 16 3 6\n\
+                 1 span 4 stall 46 rounds 4 requests 0 2 0\n\
+                 2 refused 12\n\
+                 3 span 1 stall 0 rounds 1 requests 0 0 0\n\
+                 end 3\n";
+    assert_eq!(listing(&planfile::write(&file).unwrap()), lines);
 }

@@ -1,11 +1,8 @@
-use mathlib.Core.Path.{_≡_, sym, _∙_}
-use mathlib.Core.Bool.{false}
+use mathlib.Core.Path.{sym, _∙_}
 use denote.Ref.{now}
 use borrow.Author.Needs.{needs}
 use Rattle.meaning.specs.Plan.{Plan}
-use Rattle.meaning.specs.Refusals.{outside, planRefusal, coreRefusal}
-use Rattle.plan_laws.specs.RefusalOrder.{inside}
-use Rattle.plan_laws.specs.SoundPlan.{sound-plan}
+use Rattle.meaning.specs.Refusals.{planRefusal, coreRefusal}
 use Rattle.judge.specs.declared.Judgement.{Judgement}
 use Rattle.units.specs.Given.{planOf}
 use Rattle.judge.specs.Judged.{PlanJudged, refused-before}
@@ -18,11 +15,6 @@ planAt c = planOf (c .args .head) (now (c .args .lengths)) (now (c .args .budget
 sound : (c : tie.After-found)
     → PlanJudged (planAt (c .before .before .before .before .before)) (Judgement.Sound (c .found .given .0 .0))
 sound c = rw (c .found .given .1) at (c .before .before .plan .ensures)
-
-within : (c : tie.Else1)
-    → let a = c .before .before .before .before .before .before .before .before .before .args in
-    outside 1 (a .head .cores) (a .core) ≡ false
-within c = sym (c .before .outside .ensures) ∙ c .if1 .left
 
 plan-requires : tie.Need-plan-requires
 plan-requires c κs = search needs
@@ -49,24 +41,11 @@ returns-2 : tie.Need-returns-2
 unfolding coreRefusal
 returns-2 c = rw (sound (c .before .before .before .before) .0, sym (c .before .outside .ensures) ∙ c .if1 .taken)
 
-without-budget-requires : tie.Need-without-budget-requires
-without-budget-requires c κs =
-    let s = sound-plan _ (sound (c .before .before .before .before) .0) in
-    let core = inside 1 _ _ (within c) in
-    (s .count, core .0, core .1)
-
 returns-3 : tie.Need-returns-3
 unfolding coreRefusal
 returns-3 c =
-    let core = c .before .before in
-    rw (sound (core .before .before .before .before) .0, within core, sym (c .before .without-budget .ensures) ∙ c .if2 .taken)
-
-returns-4 : tie.Need-returns-4
-unfolding coreRefusal
-returns-4 c =
-    let core = c .before .before in
-    let here = sound (core .before .before .before .before) in
-    (rw (here .0, within core, sym (c .before .without-budget .ensures) ∙ c .if2 .left), here .1)
+    let here = sound (c .before .before .before .before) in
+    (rw (here .0, sym (c .before .outside .ensures) ∙ c .if1 .left), here .1)
 
 pub plan-and-core-spec : {M : Type 1} → statement M
 plan-and-core-spec =
@@ -79,6 +58,4 @@ plan-and-core-spec =
     cast-outside
     outside-requires
     returns-2
-    without-budget-requires
-    returns-3
-    returns-4)
+    returns-3)

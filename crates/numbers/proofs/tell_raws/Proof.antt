@@ -4,10 +4,10 @@ use Rattle.numbers.proofs.tell_raws.Statement.{statement}
 use Rattle.numbers.proofs.tell_raws.Tie as tie
 
 abbrev Inv-loop : tie.InvT-loop
-Inv-loop words core budget budgets rate₀ t6 rate = rate ≤ budget
+Inv-loop words budgets core budget rate₀ t6 rate = rate ≤ budget
 
 abbrev μ-loop : tie.MeasureT-loop
-μ-loop words core budget budgets rate₀ t6 rate = budget - rate
+μ-loop words budgets core budget rate₀ t6 rate = budget - rate
 
 say-requires : tie.Need-say-requires Inv-loop μ-loop
 say-requires c κs = search needs
@@ -15,11 +15,8 @@ say-requires c κs = search needs
 loop-holds : tie.Need-loop-holds Inv-loop μ-loop
 loop-holds c = search needs
 
-slice-aggregate-tell-raw : tie.Need-slice-aggregate-tell-raw Inv-loop μ-loop
-slice-aggregate-tell-raw c = search needs
-
-cast-t12 : tie.Need-cast-t12 Inv-loop μ-loop
-cast-t12 c = search needs
+cast-t10 : tie.Need-cast-t10 Inv-loop μ-loop
+cast-t10 c = search needs
 
 tell-raw-requires : tie.Need-tell-raw-requires Inv-loop μ-loop
 tell-raw-requires c κs = search needs
@@ -32,9 +29,6 @@ loop-less c = search needs
 
 loop-again : tie.Need-loop-again Inv-loop μ-loop
 loop-again c = search needs
-
-slice-aggregate-tell-raw-2 : tie.Need-slice-aggregate-tell-raw-2 Inv-loop μ-loop
-slice-aggregate-tell-raw-2 c = search needs
 
 tell-raw-requires-2 : tie.Need-tell-raw-requires-2 Inv-loop μ-loop
 tell-raw-requires-2 c κs = search needs
@@ -56,13 +50,11 @@ tell-raws-spec =
     μ-loop
     say-requires
     loop-holds
-    slice-aggregate-tell-raw
-    cast-t12
+    cast-t10
     tell-raw-requires
     add-rate
     loop-less
     loop-again
-    slice-aggregate-tell-raw-2
     tell-raw-requires-2
     slice-aggregate-say
     say-requires-2

@@ -3,26 +3,31 @@ use Prim.Native.Nat.{ℕ, _+_, _-_, _*_, _≤_}
 use native.Mathlib.Nat.{mul-le-mul}
 use native.Mathlib.Omega.{arith}
 use denote.Ref.{now}
+use lib.ListN.{length}
 use Rattle.units.specs.Units.{slotsOf}
 use Rattle.placement_laws.specs.Filling.{Pick}
-use Rattle.stall.specs.Walks.{shareAt, Walked, every-at, part-fits, walked-none, walked-more, walked-stop, walked-all}
+use Rattle.stall.specs.Walks.{numberAt, Walked, every-at, part-fits, walked-none, walked-more, walked-stop, walked-all}
 use borrow.Author.Needs.{needs}
 use Rattle.stall.proofs.greatest.Statement.{statement}
 use Rattle.stall.proofs.greatest.Tie as tie
 
 abbrev Inv-loop : tie.InvT-loop
-Inv-loop picks count shares whole₀ left₀ k₀ whole left k =
-    Walked (shareAt shares) picks count left₀ whole left k × (left₀ ≤ 4_294_967_295)
+Inv-loop picks count bases shares whole₀ left₀ k₀ whole left k =
+    Walked (numberAt shares) (numberAt bases) (length bases) picks count left₀ whole left k × (left₀ ≤ 4_294_967_295)
 
 abbrev μ-loop : tie.MeasureT-loop
-μ-loop picks count shares whole₀ left₀ k₀ whole left k = count - k
+μ-loop picks count bases shares whole₀ left₀ k₀ whole left k = count - k
+
+base-stall-requires : tie.Need-base-stall-requires Inv-loop μ-loop
+base-stall-requires c κs = search needs
 
 cast-left : tie.Need-cast-left Inv-loop μ-loop
 cast-left c = search needs
 
 loop-holds : tie.Need-loop-holds Inv-loop μ-loop
 loop-holds c =
-    (walked-none, search needs)
+    let base = c .before .base-stall .ensures in
+    (walked-none (base .0) (base .1), search needs)
 
 mul-segment : tie.Need-mul-segment Inv-loop μ-loop
 mul-segment c = search needs
@@ -42,7 +47,7 @@ run-of-requires c κs = search needs
 -- the next run is at least 1
 some-run : (c : tie.After-run-of Inv-loop μ-loop) → 1 ≤ c .run-of .result .0
 some-run c =
-    let start = c .before .before .before .before .before .before .before in
+    let start = c .before .before .before .before .before .before .before .before .before in
     let at = c .before .before .before .before .before .loop in
     subst
     (λ (n : ℕ). 1 ≤ n)
@@ -143,6 +148,7 @@ greatest-spec =
     (tie.spec
     Inv-loop
     μ-loop
+    base-stall-requires
     cast-left
     loop-holds
     mul-segment

@@ -6,7 +6,7 @@ use denote.Ref.{now}
 use lib.ListN.{length, getD, drop}
 use Rattle.placement_laws.specs.Filling.{Pick}
 use Rattle.segments.specs.Packed.{pickOf}
-use Rattle.stall.specs.Walks.{shareAt, every-at}
+use Rattle.stall.specs.Walks.{numberAt, every-at}
 use Rattle.stall.specs.Fills.{Filling, after-zeros, filling-none, filling-more, filling-stop, filling-all}
 use borrow.Author.Needs.{needs}
 use Rattle.stall.proofs.place.Statement.{statement}
@@ -14,7 +14,7 @@ use Rattle.stall.proofs.place.Tie as tie
 
 abbrev Inv-loop : tie.InvT-loop
 Inv-loop picks count shares intervals placement₀ left₀ k₀ placement left k =
-    Filling (shareAt shares) picks count left₀ intervals placement₀ placement left k × (left₀ ≤ 4_294_967_295) × (length placement ≡ length placement₀)
+    Filling (numberAt shares) picks count left₀ intervals placement₀ placement left k × (left₀ ≤ 4_294_967_295) × (length placement ≡ length placement₀)
 
 abbrev μ-loop : tie.MeasureT-loop
 μ-loop picks count shares intervals placement₀ left₀ k₀ placement left k = count - k

@@ -1,6 +1,6 @@
 use mathlib.Core.Path.{ap, _∙_}
 use denote.Ref.{now}
-use Rattle.stall.specs.Walks.{shareAt}
+use Rattle.stall.specs.Walks.{numberAt}
 use borrow.Author.Needs.{needs}
 use Rattle.stall.proofs.share_of.Statement.{statement}
 use Rattle.stall.proofs.share_of.Tie as tie
@@ -23,7 +23,7 @@ cast-result c = search needs
 returns : tie.Need-returns
 returns c =
     let at = c .before .before in (
-      c .wide .ensures .0 ∙ ap (shareAt (now (at .before .args .shares))) (at .interval-of .ensures .0),
+      c .wide .ensures .0 ∙ ap (numberAt (now (at .before .args .shares))) (at .interval-of .ensures .0),
       c .wide .ensures .1,
     )
 

@@ -1,27 +1,29 @@
-use mathlib.Core.Path.{_≡_, sym, subst, refl}
+use mathlib.Core.Path.{_≡_, sym, subst, refl, _∙_}
 use mathlib.Core.List.{List, []}
 use Prim.Native.Nat.{ℕ, suc, _+_, _-_, _*_, _≤_, _<_}
-use native.Mathlib.Nat.{mul-le-mul-right, add-sub-cancel-left, not-suc-le-zero}
+use native.Mathlib.Nat.{le-trans, mul-le-mul-right, add-sub-cancel-left, not-suc-le-zero, min-le-left}
 use native.Mathlib.Omega.{arith}
 use denote.Ref.{now}
-use lib.ListN.{length, getD, take, drop}
+use lib.ListN.{length, getD, take, drop, length-take}
 use borrow.Author.Needs.{needs}
 use Rattle.meaning.specs.Plan.{Plan, rows}
 use Rattle.plan_laws.specs.SoundPlan.{row-at}
 use Rattle.curve.specs.Rows.{Interval}
 use Rattle.curve.specs.Figures.{HoldsEnvelope}
+use Rattle.curve.specs.Found.{holds-base}
 use Rattle.units.specs.Given.{planOf}
 use Rattle.segments.specs.Blocks.{curveAt}
-use Rattle.span.specs.Corners.{Cornered, cornered-more, sound-interval, cornered-curves, cornered-concave}
-use Rattle.span.proofs.order_of.Statement.{statement}
-use Rattle.span.proofs.order_of.Tie as tie
+use Rattle.span.specs.Corners.{Cornered, Based, hold-more, sound-interval, cornered-curves, cornered-concave}
+use Rattle.span.specs.Prepared.{until-reads}
+use Rattle.span.proofs.prepare.Statement.{statement}
+use Rattle.span.proofs.prepare.Tie as tie
 
 abbrev Inv-loop : tie.InvT-loop
-Inv-loop head lengths budgets core m intervals blocks₀ i₀ blocks i =
-    (i ≤ length lengths) × Cornered (planOf head lengths budgets) core i blocks
+Inv-loop head lengths budgets core m intervals blocks₀ bases₀ i₀ blocks bases i =
+    (i ≤ length lengths) × Cornered (planOf head lengths budgets) core i blocks × Based (planOf head lengths budgets) core i bases
 
 abbrev μ-loop : tie.MeasureT-loop
-μ-loop head lengths budgets core m intervals blocks₀ i₀ blocks i = length lengths - i
+μ-loop head lengths budgets core m intervals blocks₀ bases₀ i₀ blocks bases i = length lengths - i
 
 abbrev planAt : tie.Start Inv-loop μ-loop → Plan
 planAt c = planOf (c .args .head) (now (c .args .lengths)) (now (c .args .budgets))
@@ -52,7 +54,11 @@ cast-m : tie.Need-cast-m Inv-loop μ-loop
 cast-m c = search needs
 
 loop-holds : tie.Need-loop-holds Inv-loop μ-loop
-loop-holds c = (search needs, record { long = refl; each = λ k lt. absurd (not-suc-le-zero lt) })
+loop-holds c = (
+  search needs,
+  record { long = refl; each = λ k lt. absurd (not-suc-le-zero lt) },
+  record { long = refl; each = λ k lt. absurd (not-suc-le-zero lt) },
+)
 
 mul-start : tie.Need-mul-start Inv-loop μ-loop
 mul-start c = omega (arith, in-rows c)
@@ -79,12 +85,21 @@ interval-corners-requires c κs =
     subst (Interval (start .args .head .«per_period» .0) (start .args .core)) (sym (row-here turn))
     (sound-interval (planAt start) (start .args .core) (start .pre .0) (start .pre .1) (turn .before .loop .i) (turn .loop-test .taken))
 
+element-copy-out-bases : tie.Need-element-copy-out-bases Inv-loop μ-loop
+element-copy-out-bases c = search needs
+
+mul-bases : tie.Need-mul-bases Inv-loop μ-loop
+mul-bases c = search needs
+
+array-write-bases : tie.Need-array-write-bases Inv-loop μ-loop
+array-write-bases c = search (needs, few (c .before .before .before))
+
 mul-blocks : tie.Need-mul-blocks Inv-loop μ-loop
 mul-blocks c = search needs
 
 array-set-from-blocks : tie.Need-array-set-from-blocks Inv-loop μ-loop
 array-set-from-blocks c =
-    let turn = c .before .before in
+    let turn = c .before .before .before in
     omega (arith, few turn, turn .before .loop .inv .1 .long)
 
 add-i : tie.Need-add-i Inv-loop μ-loop
@@ -95,44 +110,69 @@ loop-less c = search needs
 
 loop-again : tie.Need-loop-again Inv-loop μ-loop
 loop-again c =
-    let turn = c .before .before in
+    let call = c .before in
+    let turn = call .before .before in
     let start = turn .before .before .before .before .before in
-    let block = c .interval-corners .result in
-    let held : HoldsEnvelope (start .args .head .«per_period» .0) (start .args .core) (getD (rows (planAt start)) (turn .before .loop .i) []) block =
-    subst (λ (row : List ℕ). HoldsEnvelope (start .args .head .«per_period» .0) (start .args .core) row block) (row-here turn) (c .interval-corners .ensures) in (
+    let state = turn .before .loop in
+    let slots = start .args .head .«per_period» .0 in
+    let row = getD (rows (planAt start)) (state .i) [] in
+    let block = call .interval-corners .result in
+    let held : HoldsEnvelope slots (start .args .core) row block =
+    subst (λ (r : List ℕ). HoldsEnvelope slots (start .args .core) r block) (row-here turn) (call .interval-corners .ensures) in (
       omega arith,
-      cornered-more (planAt start) (start .args .core) (turn .before .loop .i) (turn .before .loop .blocks) block (few turn) held (turn .before .loop .inv .1),
+      hold-more _ _ (state .i) (state .blocks) block (few turn) held (state .inv .1),
+      hold-more _ _ (state .i) (state .bases) _ (few turn) (holds-base slots (start .args .core) row block held)
+          (state .inv .2),
     )
 
--- after the loop every interval has its block
-all-cornered : (c : tie.After-loop Inv-loop μ-loop)
+-- after the loop every interval has its block and its base
+all-done : (c : tie.After-loop Inv-loop μ-loop)
     → let start = c .before .before .before .before .before in
-    Cornered (planAt start) (start .args .core) (length (now (start .args .lengths))) (c .before .loop .blocks)
-all-cornered c =
+    let n = length (now (start .args .lengths)) in
+    let state = c .before .loop in
+    Cornered (planAt start) (start .args .core) n (state .blocks) × Based (planAt start) (start .args .core) n (state .bases)
+all-done c =
     let start = c .before .before .before .before .before in
     let state = c .before .loop in
-    subst (λ (n : ℕ). Cornered (planAt start) (start .args .core) n (state .blocks)) (omega arith) (state .inv .1)
+    let done : state .i ≡ length (now (start .args .lengths)) = omega arith in (
+      subst (λ (n : ℕ). Cornered (planAt start) (start .args .core) n (state .blocks)) done (state .inv .1),
+      subst (λ (n : ℕ). Based (planAt start) (start .args .core) n (state .bases)) done (state .inv .2),
+    )
 
 order-requires : tie.Need-order-requires Inv-loop μ-loop
 order-requires c κs =
     let start = c .before .before .before .before .before in (
       start .pre .0 .fewIntervals,
-      cornered-concave (planAt start) (start .args .core) (start .pre .0) (start .pre .1) (c .before .loop .blocks) (all-cornered c),
+      cornered-concave (planAt start) (start .args .core) (start .pre .0) (start .pre .1) (c .before .loop .blocks) (all-done c .0),
     )
+
+parked-until-requires : tie.Need-parked-until-requires Inv-loop μ-loop
+parked-until-requires c κs = c .before .before .before .before .before .before .before .before .pre .0 .fewIntervals
 
 returns : tie.Need-returns Inv-loop μ-loop
 returns c =
-    let done = c .before in
+    let call = c .before .before .before in
+    let done = call .before in
     let start = done .before .before .before .before .before in
-    let blocks = done .before .loop .blocks in
-    record {
-      curve = curveAt blocks;
-      curves = cornered-curves (planAt start) (start .args .core) (start .pre .0) (start .pre .1) blocks (all-cornered done);
-      orders = c .order .ensures;
-    }
+    let state = done .before .loop in
+    let n = length (now (start .args .lengths)) in
+    let r = c .parked-until .result in
+    let until = c .parked-until .ensures .0 in
+    let few = start .pre .0 .fewIntervals in
+    let long = all-done done .1 .long in (
+      record {
+        curve = curveAt (state .blocks);
+        curves = cornered-curves (planAt start) (start .args .core) (start .pre .0) (start .pre .1) (state .blocks) (all-done done .0);
+        orders = call .order .ensures;
+        each = λ i h. until-reads n r (state .bases) until i h ∙ all-done done .1 .each i h;
+        few = rw length-take (le-trans (min-le-left r (length (state .bases))) (until .few));
+      },
+      omega (arith, until .few, few, long),
+      c .parked-until .ensures .1,
+    )
 
-pub order-of-spec : {M : Type 1} → statement M
-order-of-spec =
+pub prepare-spec : {M : Type 1} → statement M
+prepare-spec =
     tie.close
     (tie.spec
     Inv-loop
@@ -146,10 +186,14 @@ order-of-spec =
     part-interval-corners-start
     part-interval-corners-end
     interval-corners-requires
+    element-copy-out-bases
+    mul-bases
+    array-write-bases
     mul-blocks
     array-set-from-blocks
     add-i
     loop-less
     loop-again
     order-requires
+    parked-until-requires
     returns)
