@@ -3,21 +3,21 @@ use mathlib.Core.Path.{_≡_, refl, sym, ap, _∙_, subst}
 use mathlib.Core.Logic.{_↔_}
 use mathlib.Core.Bool.{true, false}
 use mathlib.Core.List.{List, [], _++_, map}
-use Prim.Native.Nat.{ℕ, suc, _+_, _*_, _≤_, _<_}
+use Prim.Native.Nat.{ℕ, suc, _+_, _-_, _*_, _≤_, _<_}
 use native.Mathlib.Nat.{le-refl}
 use lib.ListN.{length, getD, take, drop}
 use Rattle.meaning.specs.Fraction.{Fraction, Proper, whole, _≤ᶠ_, _=ᶠ_}
-use Rattle.meaning.specs.Plan.{Plan, Workload, sumOf, intervals, periods, rows, mostSpan, budgetOf, intervalAt}
+use Rattle.meaning.specs.Plan.{Plan, Workload, sumOf, intervals, periods, lengthsFrom, rows, mostSpan, budgetOf, intervalAt}
 use Rattle.meaning.specs.Curve.{Curve, limit, raw, EnvelopeOf, intervalStall, OnChord, ConcaveAny}
-use Rattle.meaning.specs.Placement.{Part, shares, sharesAt, Parts, total}
+use Rattle.meaning.specs.Placement.{Part, shares, sharesAt, laterPeriods, together, sharesFrom, Parts, total}
 use Rattle.meaning.specs.Span.{StallAt, PlacedAt, IsSpan, NoSpan, Rounds, firstTerm}
 use Rattle.meaning.specs.Run.{Period, Allowed, Lawful, EndsWithin}
-use Rattle.meaning.specs.Refusals.{planRefusal, spanRefusal}
+use Rattle.meaning.specs.Refusals.{planRefusal, startRefusal, spanRefusal}
 use Rattle.meaning.specs.PlanFile.{PlanFile, Reading, readFile, fileOf, Bytes, Widths}
 use Rattle.meaning.specs.Promises.{RawFigures, RawPromise, CornersFigures, CornersPromise, PlacementFigures, PlacementPromise, SpanFigures, noSpanFigures, SpanPromise, ReadFigures, noFileFigures, fileFigures, fileWritten, fileHeld, fits, Places, ReadPromise, WriteFigures, WritePromise}
 use Rattle.meaning.specs.Listing.{Listing, lineCount, LineOf, linesFrom}
 use Rattle.meaning.specs.Again.{NoMoreWork, longer, until, zerosFor}
-use Rattle.plan_laws.specs.SoundPlan.{sound-plan, plan-whole}
+use Rattle.plan_laws.specs.SoundPlan.{SoundFrom, sound-plan, sound-start, plan-whole}
 use Rattle.plan_laws.specs.RefusedZeros.{raw-refused-zeros, corners-refused-zeros, placement-refused-zeros, span-refused-zeros, read-refused-zeros, write-refused-zeros}
 use Rattle.plan_laws.specs.SevenUnused.{raw-not-seven, corners-not-seven, placement-not-seven, span-not-seven, read-not-seven, write-not-seven}
 use Rattle.curve_laws.specs.RawStall.{raw-rises}
@@ -27,11 +27,14 @@ use Rattle.curve_laws.specs.SegmentCount.{at-most-cores}
 use Rattle.curve_laws.specs.EnvelopeLeast.{envelope-over, envelope-on-chord, envelope-least}
 use Rattle.curve_laws.specs.ParkedCurve.{parked-raw, parked-envelope, parked-curve, parked-adds, parked-allowed}
 use Rattle.curve_laws.specs.CurveQuestions.{raw-answer-exists, raw-answer-unique, corners-answer-exists, corners-answer-unique}
-use Rattle.placement_laws.specs.Shares.{shares-more, plan-sharing, plan-first-cycle, plan-full-cycles}
-use Rattle.placement_laws.specs.StallUnique.{row-concave, parts-concave, parts-proper}
+use Rattle.placement_laws.specs.Shares.{shares-more}
+use Rattle.placement_laws.specs.PlanShares.{plan-many, plan-sharing, plan-dropped, plan-first-cycle, plan-full-cycles, plan-from-beginning}
+use Rattle.placement_laws.specs.StallUnique.{row-concave, parts-concave, parts-proper, stall-value-same}
+use Rattle.placement_laws.specs.PlacementExists.{greatest-exists}
 use Rattle.placement_laws.specs.PartsBehind.{idle-takes, idle-stall}
+use Rattle.placement_laws.specs.PartsDropped.{none-placed}
 use Rattle.placement_laws.specs.PlacementQuestion.{placement-answer-exists, placement-answer-unique}
-use Rattle.span_laws.specs.StallAtW.{shared-out, stall-at-same, placed-at-greatest, placed-at-exists}
+use Rattle.span_laws.specs.StallAtW.{placed-count, shared-out}
 use Rattle.span_laws.specs.SpanQuestion.{span-promise-exists, span-promise-unique, seen-span, answer-places-all, answer-rounds, answer-twelve}
 use Rattle.span_laws.specs.AskedAgain.{answer-room, asked-less, asked-later}
 use Rattle.span_laws.specs.IntervalsBehind.{asked-longer}
@@ -85,13 +88,13 @@ corners-answered m perPeriod budgets core place =
     (corners-refused-zeros m perPeriod budgets core place)
 
 -- placement and stall at a given W
-pub placement-answered : (p : Plan) (core requests n : ℕ) (place : List ℕ)
-    → OneAnswer (PlacementPromise p core requests n place) (λ a. a .refused) (λ a. record { refused = a .refused; stall = 0 }) place
-placement-answered p core requests n place =
+pub placement-answered : (p : Plan) (core requests start n : ℕ) (place : List ℕ)
+    → OneAnswer (PlacementPromise p core requests start n place) (λ a. a .refused) (λ a. record { refused = a .refused; stall = 0 }) place
+placement-answered p core requests start n place =
     one-answer _ _ _ place
-    (placement-answer-exists p core requests n place)
-    (placement-answer-unique p core requests n place)
-    (placement-refused-zeros p core requests n place)
+    (placement-answer-exists p core requests start n place)
+    (placement-answer-unique p core requests start n place)
+    (placement-refused-zeros p core requests start n place)
 
 -- span
 pub span-answered : (p : Plan) (w : Workload) (place : List ℕ)
@@ -118,8 +121,8 @@ pub record SevenNever : Type 0 where
       → CornersPromise m perPeriod budgets core place a after
       → a .refused ≡ 7
       → ⊥
-  pub placement : (p : Plan) (core requests n : ℕ) (place : List ℕ) (a : PlacementFigures) (after : List ℕ)
-      → PlacementPromise p core requests n place a after
+  pub placement : (p : Plan) (core requests start n : ℕ) (place : List ℕ) (a : PlacementFigures) (after : List ℕ)
+      → PlacementPromise p core requests start n place a after
       → a .refused ≡ 7
       → ⊥
   pub span : (p : Plan) (w : Workload) (place : List ℕ) (a : SpanFigures) (after : List ℕ) → SpanPromise p w place a after → a .refused ≡ 7 → ⊥
@@ -176,36 +179,64 @@ span-certain p w place a after h none =
       fewRounds = answer-rounds p w (length place) a (take (intervals p) after) (seen .answer) none;
     }
 
--- "its greatest total stall": S(W) of a plan that is not refused is a value, and one alone, whatever the core and W
+-- "its greatest total stall": S(W) of a plan that is not refused is a value, and one alone, whatever the core, the start and W
 pub stall-certain : (p : Plan) (w : Workload) (n : ℕ)
     → planRefusal p ≡ 0
     → (f : Fraction) × StallAt p w n f × ((g : Fraction) → StallAt p w n g → g =ᶠ f)
 stall-certain p w n plan =
     let sound = sound-plan p plan in
-    let found = placed-at-exists p w sound n in
-    let f = total (found .2 .parts) (found .0) in
-    let greatest = placed-at-greatest p w sound n (found .0) (found .1) (found .2) in
-    (f, greatest, λ g h. stall-at-same p w sound n g f h greatest)
+    let ws = sharesFrom p (w .start) n in
+    let found = greatest-exists p (w .core) sound (w .requests) ws (plan-many p (w .start) n) in
+    (found .0, found .1, λ g h. stall-value-same p (w .core) sound (w .requests) ws g (found .0) h (found .1))
 
--- 2026-01, "interval j gets its length once for each full cycle plus its part of the last one": the shares sum to W, up to T they are those of the plain plan, k·T periods are k times the lengths, and a period more is one more for the interval that it lies in and for no other
-pub record SharesCertain (p : Plan) : Type 0 where
-  pub all : (w : ℕ) → w ≤ mostSpan p → sumOf (sharesAt p w) ≡ w
-  pub firstCycle : (w : ℕ) → w ≤ periods p → sharesAt p w ≡ shares 0 w (p .lengths)
-  pub fullCycles : p .repeating ≡ true → (k : ℕ) → sharesAt p (k * periods p) ≡ map (λ (l : ℕ). k * l) (p .lengths)
+-- 2026-01 and 2026-03, "interval j gets its length once for each full cycle plus its part of the last one", "the intervals before it are dropped, the one it falls in is shortened .. later cycles are whole": the shares from a start sum to W, up to the end of the first cycle they are those of the lengths that the start leaves, k cycles after it add k times the lengths, and a period more is one more for the interval that it lies in and for no other; with the shares of the periods before the start they are those from the plan's beginning
+pub record SharesCertain (p : Plan) (start : ℕ) : Type 0 where
+  pub all : (w : ℕ) → w ≤ mostSpan p start → sumOf (sharesFrom p start w) ≡ w
+  pub firstCycle : (w : ℕ) → w ≤ periods p - start → sharesFrom p start w ≡ shares 0 w (lengthsFrom start (p .lengths))
+  pub fullCycles : p .repeating ≡ true
+      → (k : ℕ)
+      → sharesFrom p start (periods p - start + k * periods p) ≡ together (lengthsFrom start (p .lengths)) (map (λ (l : ℕ). k * l) (p .lengths))
   pub onePeriod : (w : ℕ)
-      → w < mostSpan p
-      → (getD (sharesAt p (suc w)) (intervalAt p w) 0 ≡ suc (getD (sharesAt p w) (intervalAt p w) 0))
-      × ((j : ℕ) → (j ≡ intervalAt p w → ⊥) → getD (sharesAt p (suc w)) j 0 ≡ getD (sharesAt p w) j 0)
+      → w < mostSpan p start
+      → let met = intervalAt p (start + w) in
+      (getD (sharesFrom p start (suc w)) met 0 ≡ suc (getD (sharesFrom p start w) met 0))
+      × ((j : ℕ) → (j ≡ met → ⊥) → getD (sharesFrom p start (suc w)) j 0 ≡ getD (sharesFrom p start w) j 0)
+  pub fromBeginning : (w : ℕ) → w ≤ mostSpan p start → together (sharesFrom p start w) (sharesAt p start) ≡ sharesAt p (start + w)
 
--- that is so of every plan that is not refused
-pub shares-certain : (p : Plan) → planRefusal p ≡ 0 → SharesCertain p
-shares-certain p e =
-    let sound = sound-plan p e in
+-- that is so of every plan that is not refused, from every start that is not
+pub shares-certain : (p : Plan) (start : ℕ) → planRefusal p ≡ 0 → startRefusal p start ≡ 0 → SharesCertain p start
+shares-certain p start plan begin =
+    let sound : SoundFrom p start = record { plan = sound-plan p plan; below = sound-start p start begin } in
     record {
-      all = λ w. shared-out p w sound;
-      firstCycle = λ w. plan-first-cycle p w sound;
-      fullCycles = λ marked k. plan-full-cycles p k sound marked;
-      onePeriod = shares-more (intervals p) (mostSpan p) (sharesAt p) (intervalAt p) (plan-sharing p sound);
+      all = λ w. shared-out p start w sound;
+      firstCycle = λ w. plan-first-cycle p start w sound;
+      fullCycles = λ marked k. plan-full-cycles p start k sound marked;
+      onePeriod =
+          shares-more (intervals p) (mostSpan p start) (sharesFrom p start) (λ k. intervalAt p (start + k)) (plan-sharing p start sound);
+      fromBeginning = λ w. plan-from-beginning p start w sound;
+    }
+
+-- 2026-03, "The placement still has a number for every interval, 0 for those dropped and not met again": of a placement that answers at W from a start, 0 wherever an interval has no share; and so for one of which the start leaves nothing, where W has no periods for later cycles, as in every plain plan
+pub record DroppedCertain (p : Plan) (start n : ℕ) (xs : List ℕ) : Type 0 where
+  pub every : length xs ≡ intervals p
+  pub unmet : (i : ℕ) → getD (sharesFrom p start n) i 0 ≡ 0 → getD xs i 0 ≡ 0
+  pub dropped : laterPeriods p start n ≡ 0 → (i : ℕ) → getD (lengthsFrom start (p .lengths)) i 0 ≡ 0 → getD xs i 0 ≡ 0
+
+-- that is so of every answered placement, and so of that of a span
+pub dropped-certain : (p : Plan) (w : Workload) (n : ℕ) (xs : List ℕ) (stall : ℕ)
+    → planRefusal p ≡ 0
+    → startRefusal p (w .start) ≡ 0
+    → PlacedAt p w n xs stall
+    → DroppedCertain p (w .start) n xs
+dropped-certain p w n xs stall plan begin h =
+    let sound : SoundFrom p (w .start) = record { plan = sound-plan p plan; below = sound-start p (w .start) begin } in
+    let ws = sharesFrom p (w .start) n in
+    let unmet : (i : ℕ) → getD ws i 0 ≡ 0 → getD xs i 0 ≡ 0 =
+    none-placed (p .perPeriod) (w .core) ws (rows p) (h .parts) xs (h .ofPlan) (h .answered .greatest .placed .fitting) in
+    record {
+      every = placed-count p w n xs stall h;
+      unmet = unmet;
+      dropped = λ none i left. unmet i (plan-dropped p (w .start) n i sound none left);
     }
 
 -- "'no span' exactly when no number up to the horizon will do", where the question is not refused for another reason
@@ -260,14 +291,14 @@ pub runs-end : (p : Plan) (w : Workload) (place : List ℕ) (a : SpanFigures) (a
     → EndsWithin p w run (a .span)
 runs-end p w place a after run (xs, answer, wrote) = answer-ends p w (length place) a xs run answer
 
--- "asked again with less work the span is no larger": up to any horizon within the plan's limit that is not before the span, a span is given, whatever place with room is lent
+-- "asked again with less work the span is no larger": from the same start up to any horizon within the plan's limit that is not before the span, a span is given, whatever place with room is lent
 pub less-work-no-larger : (p : Plan) (w v : Workload) (place place' : List ℕ) (a b : SpanFigures) (after after' : List ℕ)
     → SpanPromise p w place a after
     → a .refused ≡ 0
     → NoMoreWork v w
     → 1 ≤ v .computing
     → a .span ≤ v .horizon
-    → v .horizon ≤ mostSpan p
+    → v .horizon ≤ mostSpan p (v .start)
     → intervals p ≤ length place'
     → SpanPromise p v place' b after'
     → (b .refused ≡ 0) × (b .span ≤ a .span)
@@ -279,7 +310,7 @@ pub later-horizon-same : (p : Plan) (w : Workload) (h : ℕ) (place place' : Lis
     → SpanPromise p w place a after
     → a .refused ≡ 0
     → w .horizon ≤ h
-    → h ≤ mostSpan p
+    → h ≤ mostSpan p (w .start)
     → intervals p ≤ length place'
     → SpanPromise p (until w h) place' b after'
     → (b ≡ a) × (take (intervals p) after' ≡ take (intervals p) after)

@@ -2,5 +2,6 @@ pub mod Worked
 pub mod Table
 pub mod Example
 pub mod Demands
+pub mod StartNone
 pub mod RunsByNumber
 pub mod Returned

@@ -108,12 +108,12 @@ corners-one m perPeriod budgets core place a b x y ha hb =
     (corners-figures-one a b (same .0), same .1)
 
 -- placement and stall at a given W
-pub placement-one : (p : Plan) (core requests n : ℕ) (place : List ℕ) (a b : PlacementAnswer) (x y : List ℕ)
-    → PlacementPromise p core requests n place (placementFigures a) x
-    → PlacementPromise p core requests n place (placementFigures b) y
+pub placement-one : (p : Plan) (core requests start n : ℕ) (place : List ℕ) (a b : PlacementAnswer) (x y : List ℕ)
+    → PlacementPromise p core requests start n place (placementFigures a) x
+    → PlacementPromise p core requests start n place (placementFigures b) y
     → (a ≡ b) × (x ≡ y)
-placement-one p core requests n place a b x y ha hb =
-    let same = placement-answer-unique p core requests n place (placementFigures a) (placementFigures b) x y ha hb in
+placement-one p core requests start n place a b x y ha hb =
+    let same = placement-answer-unique p core requests start n place (placementFigures a) (placementFigures b) x y ha hb in
     (placement-figures-one a b (same .0), same .1)
 
 -- span

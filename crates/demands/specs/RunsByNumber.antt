@@ -2,7 +2,7 @@
 use mathlib.Core.Path.{_≡_, refl, sym, ap, subst}
 use mathlib.Core.List.{List, [], _∷_}
 use Prim.Native.Nat.{ℕ, zero, suc, _+_, _≤_, _<_}
-use native.Mathlib.Nat.{le-of-suc-le-suc, not-suc-le-zero, add-zero, zero-add}
+use native.Mathlib.Nat.{le-of-suc-le-suc, not-suc-le-zero, add-zero}
 use native.Mathlib.Omega.{arith}
 use lib.ListN.{length, getD}
 use Rattle.meaning.specs.Plan.{Plan, Workload, rows, mostSpan, budgetOf, intervalAt, inForce}
@@ -19,11 +19,11 @@ rowOf p k = getD (rows p) (intervalAt p k) []
 abbrev idle : Period
 idle = record { computing = 0; requests = 0; stall = 0 }
 
--- a lawful run, by the number of each period
+-- a lawful run, by the number of each period, counted from the start
 pub record LawfulByNumber (p : Plan) (w : Workload) (run : List Period) : Type 0 where
-  pub within : length run ≤ mostSpan p
-  pub budget : (k : ℕ) → k < length run → getD run k idle .requests ≤ budgetOf (w .core) (rowOf p k)
-  pub stalled : (k : ℕ) → k < length run → getD run k idle .stall ≤ raw (p .perPeriod) (rowOf p k) (w .core) (getD run k idle .requests)
+  pub within : length run ≤ mostSpan p (w .start)
+  pub budget : (k : ℕ) → k < length run → getD run k idle .requests ≤ budgetOf (w .core) (rowOf p (w .start + k))
+  pub stalled : (k : ℕ) → k < length run → getD run k idle .stall ≤ raw (p .perPeriod) (rowOf p (w .start + k)) (w .core) (getD run k idle .requests)
   pub whole : (k : ℕ) → suc k < length run → used (getD run k idle) ≡ p .perPeriod
   pub room : (k : ℕ) → suc k ≡ length run → used (getD run k idle) ≤ p .perPeriod
   pub works : (k : ℕ) → suc k ≡ length run → 1 ≤ getD run k idle .computing + getD run k idle .requests
@@ -68,14 +68,9 @@ lawful-by-number p w run h =
     record {
       within = h .within;
       periodByPeriod =
-          lawful-from p (w .core) 0 run
+          lawful-from p (w .core) (w .start) run
           (record {
-            allowed =
-                λ i inside.
-                subst
-                (λ (n : ℕ). Allowed (p .perPeriod) (w .core) (inForce p n) (getD run i idle))
-                (sym (zero-add i))
-                (record { budget = h .budget i inside; stalled = h .stalled i inside });
+            allowed = λ i inside. record { budget = h .budget i inside; stalled = h .stalled i inside };
             whole = h .whole;
             room = h .room;
             works = h .works;
@@ -148,13 +143,11 @@ by-number p core k (d ∷ e ∷ ds) h = one-period-more p core k d e ds (h .0) (
 -- and a lawful run is such a run: the two definitions say the same
 pub lawful-is-by-number : (p : Plan) (w : Workload) (run : List Period) → Lawful p w run → LawfulByNumber p w run
 lawful-is-by-number p w run h =
-    let found = by-number p (w .core) 0 run (h .periodByPeriod) in
-    let allowed : (k : ℕ) → k < length run → Allowed (p .perPeriod) (w .core) (rowOf p k) (getD run k idle) =
-    λ k inside. subst (λ (n : ℕ). Allowed (p .perPeriod) (w .core) (inForce p n) (getD run k idle)) (zero-add k) (found .allowed k inside) in
+    let found = by-number p (w .core) (w .start) run (h .periodByPeriod) in
     record {
       within = h .within;
-      budget = λ k inside. allowed k inside .budget;
-      stalled = λ k inside. allowed k inside .stalled;
+      budget = λ k inside. found .allowed k inside .budget;
+      stalled = λ k inside. found .allowed k inside .stalled;
       whole = found .whole;
       room = found .room;
       works = found .works;

@@ -5,9 +5,9 @@ use mathlib.Core.List.{List, [], _∷_}
 use Prim.Native.Nat.{ℕ}
 use lib.ListN.{length}
 use Rattle.meaning.specs.Fraction.{roundUp, whole, _+ᶠ_}
-use Rattle.meaning.specs.Plan.{Plan, Workload, intervals, rowsOf, All}
+use Rattle.meaning.specs.Plan.{Plan, Workload, intervals, lengthsFrom, rowsOf, All}
 use Rattle.meaning.specs.Curve.{Curve, raw, others, sumOfSmaller, rates, stalls, EnvelopeOf, intervalStall, stallFrom}
-use Rattle.meaning.specs.Placement.{shares, AnsweredAt}
+use Rattle.meaning.specs.Placement.{shares, together, AnsweredAt}
 use Rattle.meaning.specs.Span.{firstTerm, NextTerm}
 use Rattle.meaning.specs.Refusals.{intervalsRefusal, planRefusal, coreRefusal, placementRefusal, spanRefusal}
 use Rattle.meaning.specs.PlanFile.{tabulate}
@@ -18,15 +18,15 @@ use Rattle.placement_laws.specs.OrderMerged.{orderTo, merged, weave, picksFrom}
 use Rattle.span_laws.specs.SearchFinds.{sought, oneMore}
 use Rattle.span_laws.specs.WorkedAnswers.{covered, cornersRight, envelopeRight, curvesRight, envelope-checked, claim-answer, claim-placement}
 use Rattle.span_laws.specs.WorkedAnswers.{claim-next}
-use Rattle.demands.specs.Worked.{exampleMarked, examplePlan}
+use Rattle.demands.specs.Worked.{exampleMarked, examplePlan, equalRepeats}
 
 infixr 10 _also_
--- a row: the raw stalls and the corners of a core with these budgets and Q = 16; or a workload on a plan and its answer; or its terms; or a placement at a given W and its stall
+-- a row: the raw stalls and the corners of a core with these budgets and Q = 16; or a workload on a plan and its answer; or its terms; or a placement from a start at a given W and its stall
 pub data Row : Type 0 where
   curveRow : (budgets : List ℕ) (core : ℕ) (raws corners : List ℕ) → Row
   spanRow : Plan → Workload → SpanFigures → List ℕ → Row
   termsRow : Plan → Workload → List ℕ → Row
-  placementRow : Plan → (core requests n : ℕ) → (stall : ℕ) → List ℕ → Row
+  placementRow : Plan → (core requests start n : ℕ) → (stall : ℕ) → List ℕ → Row
 
 -- the budgets of the table
 abbrev pub budgets : List ℕ
@@ -93,10 +93,14 @@ parked = parkedMarked false
 abbrev pub parkedThrough : Plan
 parkedThrough = record { cores = 2; perPeriod = 16; repeating = false; lengths = 5 ∷ []; budgets = 0 ∷ 16 ∷ [] }
 
--- a workload: core, computing, requests, horizon
+-- a workload: start, core, computing, requests, horizon
+abbrev pub loadFrom : ℕ → ℕ → ℕ → ℕ → ℕ → Workload
+loadFrom start core computing requests horizon =
+    record { core = core; computing = computing; requests = requests; horizon = horizon; start = start }
+
+-- one from the plan's beginning: core, computing, requests, horizon
 abbrev pub load : ℕ → ℕ → ℕ → ℕ → Workload
-load core computing requests horizon =
-    record { core = core; computing = computing; requests = requests; horizon = horizon }
+load = loadFrom 0
 
 -- an answer: span, stall, rounds
 abbrev pub given : ℕ → ℕ → ℕ → SpanFigures
@@ -132,13 +136,13 @@ table =
     ∷ spanRow examplePlan (load 3 10 10 5) (given 4 30 3) (2 ∷ 8 ∷ [])
     ∷ spanRow examplePlan (load 3 10 10 3) (noSpanFigures 12) []
     -- 004, section VI, at W = 6
-    ∷ placementRow three 3 25 6 58 (22 ∷ 3 ∷ 0 ∷ [])
+    ∷ placementRow three 3 25 0 6 58 (22 ∷ 3 ∷ 0 ∷ [])
     -- core 4 at W = 1: the last segment is flat, and it is filled too
-    ∷ placementRow plan 4 7 1 9 (7 ∷ [])
+    ∷ placementRow plan 4 7 0 1 9 (7 ∷ [])
     -- three intervals with one curve at W = 3: 3 requests in each would stall 7 2/3 each, 24 if rounded up before the total
-    ∷ placementRow same 3 9 3 23 (5 ∷ 2 ∷ 2 ∷ [])
+    ∷ placementRow same 3 9 0 3 23 (5 ∷ 2 ∷ 2 ∷ [])
     -- P4's work at W = 9: 82 1/3, rounded up
-    ∷ placementRow plan 3 35 9 83 (35 ∷ [])
+    ∷ placementRow plan 3 35 0 9 83 (35 ∷ [])
     -- 2026-01: the listing's plan repeating, and what the plain plan answers
     ∷ spanRow listingRepeats (load 3 10 10 5) (given 4 30 3) (2 ∷ 8 ∷ [])
     ∷ spanRow listingRepeats (load 3 40 35 65_535) (given 12 105 4) (6 ∷ 29 ∷ [])
@@ -146,8 +150,8 @@ table =
     ∷ spanRow examplePlan (load 3 40 35 65_535) (noSpanFigures 10) []
     ∷ spanRow examplePlan (load 3 40 35 11) (noSpanFigures 10) []
     ∷ spanRow listingRepeats (load 3 100 100 65_535) (given 32 300 4) (14 ∷ 86 ∷ [])
-    ∷ placementRow listingRepeats 3 25 12 75 (6 ∷ 19 ∷ [])
-    ∷ placementRow listingRepeats 3 25 65_535 75 (25 ∷ 0 ∷ [])
+    ∷ placementRow listingRepeats 3 25 0 12 75 (6 ∷ 19 ∷ [])
+    ∷ placementRow listingRepeats 3 25 0 65_535 75 (25 ∷ 0 ∷ [])
     -- one period that repeats: as P4 with H = 20, and 12 with H = 9
     ∷ spanRow oneRepeats (load 3 40 35 20) (given 10 85 3) (35 ∷ [])
     ∷ spanRow oneRepeats (load 3 40 35 9) (noSpanFigures 12) []
@@ -161,14 +165,34 @@ table =
     ∷ spanRow parked (load 1 1 2 6) (given 4 46 4) (0 ∷ 2 ∷ 0 ∷ [])
     ∷ spanRow parked (load 1 10 1 6) (given 4 39 4) (0 ∷ 1 ∷ 0 ∷ [])
     ∷ spanRow parked (load 1 1 6 6) (noSpanFigures 12) []
-    ∷ placementRow parked 1 2 1 16 (0 ∷ 0 ∷ 0 ∷ [])
-    ∷ placementRow parked 1 2 2 32 (0 ∷ 0 ∷ 0 ∷ [])
-    ∷ placementRow parked 1 2 3 46 (0 ∷ 2 ∷ 0 ∷ [])
-    ∷ placementRow parked 1 2 5 46 (0 ∷ 2 ∷ 0 ∷ [])
-    ∷ placementRow parked 1 2 6 62 (0 ∷ 2 ∷ 0 ∷ [])
+    ∷ placementRow parked 1 2 0 1 16 (0 ∷ 0 ∷ 0 ∷ [])
+    ∷ placementRow parked 1 2 0 2 32 (0 ∷ 0 ∷ 0 ∷ [])
+    ∷ placementRow parked 1 2 0 3 46 (0 ∷ 2 ∷ 0 ∷ [])
+    ∷ placementRow parked 1 2 0 5 46 (0 ∷ 2 ∷ 0 ∷ [])
+    ∷ placementRow parked 1 2 0 6 62 (0 ∷ 2 ∷ 0 ∷ [])
     ∷ spanRow (parkedMarked true) (load 1 20 4 65_535) (given 9 108 6) (0 ∷ 4 ∷ 0 ∷ [])
     -- parked all the way
     ∷ spanRow parkedThrough (load 1 1 0 5) (noSpanFigures 12) []
+    -- 2026-03: tasks that start later on the listing's plan
+    ∷ spanRow examplePlan (loadFrom 1 3 10 10 4) (given 4 30 3) (0 ∷ 10 ∷ [])
+    ∷ spanRow examplePlan (loadFrom 2 3 10 10 3) (noSpanFigures 12) []
+    ∷ spanRow examplePlan (loadFrom 4 3 10 10 1) (noSpanFigures 12) []
+    ∷ spanRow examplePlan (loadFrom 5 3 10 10 1) (noSpanFigures 14) []
+    ∷ spanRow examplePlan (loadFrom 4 3 10 10 2) (noSpanFigures 10) []
+    -- and where it repeats
+    ∷ spanRow listingRepeats (loadFrom 3 3 10 10 65_535) (given 4 30 3) (2 ∷ 8 ∷ [])
+    ∷ placementRow listingRepeats 3 8 3 5 24 (2 ∷ 6 ∷ [])
+    ∷ placementRow listingRepeats 3 8 4 1 12 (0 ∷ 4 ∷ [])
+    ∷ placementRow listingRepeats 3 8 4 2 22 (4 ∷ 4 ∷ [])
+    ∷ placementRow listingRepeats 3 8 4 6 24 (2 ∷ 6 ∷ [])
+    ∷ placementRow listingRepeats 3 8 4 7 24 (4 ∷ 4 ∷ [])
+    -- start + W passes two bytes
+    ∷ placementRow listingRepeats 3 8 3 65_535 24 (8 ∷ 0 ∷ [])
+    -- a start in a parked interval, and one from which it is dropped and met again
+    ∷ placementRow parked 1 2 1 3 30 (0 ∷ 2 ∷ 0 ∷ [])
+    ∷ placementRow (parkedMarked true) 1 2 5 4 62 (0 ∷ 2 ∷ 0 ∷ [])
+    -- most to interval 1, which is met last
+    ∷ placementRow equalRepeats 3 10 2 3 30 (4 ∷ 6 ∷ [])
     ∷ []
 
 -- each number is the next term of the one before it, the first of them that of t
@@ -187,8 +211,8 @@ RowHolds (curveRow row core raws corners) =
     (tabulate (length raws) (raw 16 row core) ≡ raws) × (c : Curve) × EnvelopeOf 16 core row c × (rates c ≡ corners)
 RowHolds (spanRow p w a xs) = SpanAnswered p w (intervals p) a xs
 RowHolds (termsRow p w terms) = Terms p w terms
-RowHolds (placementRow p core requests n stall xs) =
-    (placementRefusal p core requests n (intervals p) ≡ 0) × AnsweredAt p core requests n xs stall
+RowHolds (placementRow p core requests start n stall xs) =
+    (placementRefusal p core requests start n (intervals p) ≡ 0) × AnsweredAt p core requests start n xs stall
 
 -- the corners of core 1
 abbrev curve1 : Curve
@@ -249,7 +273,7 @@ _also_ row later = (row, later)
 
 -- every row of the table holds
 pub table-holds : All RowHolds table
-unfolding raw others sumOfSmaller tabulate covered cornersRight envelopeRight curvesRight rowsOf intervalsRefusal planRefusal coreRefusal placementRefusal spanRefusal shares roundUp listFrom sumFrom walk fill orderTo merged weave picksFrom sought oneMore
+unfolding raw others sumOfSmaller tabulate covered cornersRight envelopeRight curvesRight rowsOf intervalsRefusal planRefusal coreRefusal placementRefusal spanRefusal shares together lengthsFrom roundUp listFrom sumFrom walk fill orderTo merged weave picksFrom sought oneMore
 table-holds =
     (refl, curve1, envelope-checked (raw 16 budgets 1) 2 curve1 refl, refl)
     also (refl, curve3, envelope-checked (raw 16 budgets 3) 5 curve3 refl, refl)
@@ -271,18 +295,18 @@ table-holds =
     also claim-answer alone (load 1 10 22 20) 1 (whole1 ∷ []) refl refl
     also claim-answer examplePlan (load 3 10 10 5) 2 (curve3 ∷ equal3 ∷ []) refl refl
     also claim-answer examplePlan (load 3 10 10 3) 2 (curve3 ∷ equal3 ∷ []) refl refl
-    also (refl, claim-placement three 3 25 6 3 (curve3 ∷ second3 ∷ third3 ∷ []) refl refl)
-    also (refl, claim-placement plan 4 7 1 1 (curve4 ∷ []) refl refl)
-    also (refl, claim-placement same 3 9 3 3 (curve3 ∷ curve3 ∷ curve3 ∷ []) refl refl)
-    also (refl, claim-placement plan 3 35 9 1 (curve3 ∷ []) refl refl)
+    also (refl, claim-placement three 3 25 0 6 3 (curve3 ∷ second3 ∷ third3 ∷ []) refl refl)
+    also (refl, claim-placement plan 4 7 0 1 1 (curve4 ∷ []) refl refl)
+    also (refl, claim-placement same 3 9 0 3 3 (curve3 ∷ curve3 ∷ curve3 ∷ []) refl refl)
+    also (refl, claim-placement plan 3 35 0 9 1 (curve3 ∷ []) refl refl)
     also claim-answer listingRepeats (load 3 10 10 5) 2 (curve3 ∷ equal3 ∷ []) refl refl
     also claim-answer listingRepeats (load 3 40 35 65_535) 2 (curve3 ∷ equal3 ∷ []) refl refl
     also claim-answer listingRepeats (load 3 40 35 11) 2 (curve3 ∷ equal3 ∷ []) refl refl
     also (refl, refl)
     also (refl, refl)
     also claim-answer listingRepeats (load 3 100 100 65_535) 2 (curve3 ∷ equal3 ∷ []) refl refl
-    also (refl, claim-placement listingRepeats 3 25 12 2 (curve3 ∷ equal3 ∷ []) refl refl)
-    also (refl, claim-placement listingRepeats 3 25 65_535 2 (curve3 ∷ equal3 ∷ []) refl refl)
+    also (refl, claim-placement listingRepeats 3 25 0 12 2 (curve3 ∷ equal3 ∷ []) refl refl)
+    also (refl, claim-placement listingRepeats 3 25 0 65_535 2 (curve3 ∷ equal3 ∷ []) refl refl)
     also claim-answer oneRepeats (load 3 40 35 20) 1 (curve3 ∷ []) refl refl
     also claim-answer oneRepeats (load 3 40 35 9) 1 (curve3 ∷ []) refl refl
     also (refl, parked1, envelope-checked (raw 16 parkedBudgets 1) 0 parked1 refl, refl)
@@ -297,13 +321,28 @@ table-holds =
     also claim-answer parked (load 1 1 2 6) 3 parkedCurves refl refl
     also claim-answer parked (load 1 10 1 6) 3 parkedCurves refl refl
     also claim-answer parked (load 1 1 6 6) 3 parkedCurves refl refl
-    also (refl, claim-placement parked 1 2 1 3 parkedCurves refl refl)
-    also (refl, claim-placement parked 1 2 2 3 parkedCurves refl refl)
-    also (refl, claim-placement parked 1 2 3 3 parkedCurves refl refl)
-    also (refl, claim-placement parked 1 2 5 3 parkedCurves refl refl)
-    also (refl, claim-placement parked 1 2 6 3 parkedCurves refl refl)
+    also (refl, claim-placement parked 1 2 0 1 3 parkedCurves refl refl)
+    also (refl, claim-placement parked 1 2 0 2 3 parkedCurves refl refl)
+    also (refl, claim-placement parked 1 2 0 3 3 parkedCurves refl refl)
+    also (refl, claim-placement parked 1 2 0 5 3 parkedCurves refl refl)
+    also (refl, claim-placement parked 1 2 0 6 3 parkedCurves refl refl)
     also claim-answer (parkedMarked true) (load 1 20 4 65_535) 3 parkedCurves refl refl
     also claim-answer parkedThrough (load 1 1 0 5) 1 (parked1 ∷ []) refl refl
+    also claim-answer examplePlan (loadFrom 1 3 10 10 4) 2 (curve3 ∷ equal3 ∷ []) refl refl
+    also claim-answer examplePlan (loadFrom 2 3 10 10 3) 2 (curve3 ∷ equal3 ∷ []) refl refl
+    also claim-answer examplePlan (loadFrom 4 3 10 10 1) 2 (curve3 ∷ equal3 ∷ []) refl refl
+    also (refl, refl)
+    also (refl, refl)
+    also claim-answer listingRepeats (loadFrom 3 3 10 10 65_535) 2 (curve3 ∷ equal3 ∷ []) refl refl
+    also (refl, claim-placement listingRepeats 3 8 3 5 2 (curve3 ∷ equal3 ∷ []) refl refl)
+    also (refl, claim-placement listingRepeats 3 8 4 1 2 (curve3 ∷ equal3 ∷ []) refl refl)
+    also (refl, claim-placement listingRepeats 3 8 4 2 2 (curve3 ∷ equal3 ∷ []) refl refl)
+    also (refl, claim-placement listingRepeats 3 8 4 6 2 (curve3 ∷ equal3 ∷ []) refl refl)
+    also (refl, claim-placement listingRepeats 3 8 4 7 2 (curve3 ∷ equal3 ∷ []) refl refl)
+    also (refl, claim-placement listingRepeats 3 8 3 65_535 2 (curve3 ∷ equal3 ∷ []) refl refl)
+    also (refl, claim-placement parked 1 2 1 3 3 parkedCurves refl refl)
+    also (refl, claim-placement (parkedMarked true) 1 2 5 4 3 parkedCurves refl refl)
+    also (refl, claim-placement equalRepeats 3 10 2 3 2 (equal3 ∷ equal3 ∷ []) refl refl)
     also tt
 
 -- 004: core 3's envelope, with corners 0, 2, 5 and stalls 0, 6, 11 there, gives 9 periods with 35 requests a stall of 82 1/3

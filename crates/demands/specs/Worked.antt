@@ -3,8 +3,8 @@ use mathlib.Core.Path.{_≡_, refl}
 use mathlib.Core.Bool.{Bool, true, false}
 use mathlib.Core.List.{List, [], _∷_, map}
 use Prim.Native.Nat.{ℕ}
-use Rattle.meaning.specs.Plan.{Plan, rowsOf}
-use Rattle.meaning.specs.Placement.{shares, sharesAt}
+use Rattle.meaning.specs.Plan.{Plan, lengthsFrom, rowsOf}
+use Rattle.meaning.specs.Placement.{shares, together, sharesAt, sharesFrom}
 use Rattle.meaning.specs.Refusals.{planRefusal, intervalsRefusal, coreRefusal, rawRefusal, cornersRefusal, placementRefusal}
 use Rattle.meaning.specs.PlanFile.{Reading, PlanFile, readFile, headFault, intervalFault, workloadFault, recordFault, readIntervals, readWorkloads, tabulate, listedZero, fileOf, intervalRecords, workloadRecords, maskOf, listedOf}
 use Rattle.meaning.specs.Listing.{digits, spaced, planLine, spanLine, refusedLine, endLine}
@@ -60,9 +60,38 @@ unfolding shares
 repeating-shares = refl
 
 -- a placement at W = 0 is 10 there too
-pub repeating-none : placementRefusal (exampleMarked true) 3 25 0 2 ≡ 10
+pub repeating-none : placementRefusal (exampleMarked true) 3 25 0 0 2 ≡ 10
 unfolding placementRefusal planRefusal intervalsRefusal coreRefusal rowsOf
 repeating-none = refl
+
+-- two intervals of 2 periods with equal budgets, repeating
+abbrev pub equalRepeats : Plan
+equalRepeats =
+    record {
+      cores = 4;
+      perPeriod = 16;
+      repeating = true;
+      lengths = 2 ∷ 2 ∷ [];
+      budgets = 4 ∷ 4 ∷ 4 ∷ 4 ∷ 4 ∷ 4 ∷ 4 ∷ 4 ∷ [];
+    }
+
+-- 2026-03: the listing's plan where it repeats, at (start, W) of (3, 5), (4, 1), (4, 2), (4, 6) and (4, 7), and two equal intervals at (2, 3)
+pub started-shares :
+    sharesFrom (exampleMarked true) 3 5
+    ∷ sharesFrom (exampleMarked true) 4 1
+    ∷ sharesFrom (exampleMarked true) 4 2
+    ∷ sharesFrom (exampleMarked true) 4 6
+    ∷ sharesFrom (exampleMarked true) 4 7
+    ∷ sharesFrom equalRepeats 2 3
+    ∷ []
+    ≡ (1 ∷ 4 ∷ []) ∷ (0 ∷ 1 ∷ []) ∷ (1 ∷ 1 ∷ []) ∷ (1 ∷ 5 ∷ []) ∷ (2 ∷ 5 ∷ []) ∷ (1 ∷ 2 ∷ []) ∷ []
+unfolding shares together lengthsFrom
+started-shares = refl
+
+-- a start of T is 14 where the plan repeats too, and before 10
+pub started-past : placementRefusal (exampleMarked true) 3 8 5 0 2 ≡ 14
+unfolding placementRefusal planRefusal intervalsRefusal coreRefusal rowsOf
+started-past = refl
 
 -- what the file of the listing holds
 abbrev pub exampleContents : PlanFile

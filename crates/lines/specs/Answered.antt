@@ -63,7 +63,7 @@ module _ (p : Plan) (w : Workload) (number : ℕ) (place placed before after : L
   span-line span stall rounds few (xs, answer, wrote) line =
       let a = spanFigures (SpanAnswer.Found span stall rounds) in
       let given = answer-given p w (length place) a xs answer refl in
-      let count = placed-count p w (a .span) xs (a .stall) (given .0 .plan) (given .1 .placement) in
+      let count = placed-count p w (a .span) xs (a .stall) (given .1 .placement) in
       let whole : placed ≡ xs = wrote ∙ written-whole xs place (count ∙ sym size) in
       let fits = room-for (length placed) (length before) (omega (arith, ap length whole, count, few)) enough in (
         a,

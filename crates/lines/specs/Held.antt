@@ -227,6 +227,7 @@ module _ (c : Contents) (places : Places) (held : HeldIn c places) (before after
         computing = sym (front (places .computing)) i;
         requests = sym (front (places .requests)) i;
         horizon = sym (front (places .horizons)) i;
+        start = 0;
       }) in (
         answerLine (suc k) a xs (a .refused),
         inl (

@@ -100,7 +100,7 @@ abbrev pub answerLine : ℕ → SpanFigures → List ℕ → ℕ → List ℕ
 answerLine k a xs zero = spanLine k a xs
 answerLine k a xs (suc n) = refusedLine k (suc n)
 
--- the k-th workload of a file, k from 0
+-- the k-th workload of a file, k from 0; a file has no start, so it starts at 0
 abbrev pub workloadAt : Workloads → ℕ → Workload
 workloadAt w k =
     record {
@@ -108,6 +108,7 @@ workloadAt w k =
       computing = getD (w .computing) k 0;
       requests = getD (w .requests) k 0;
       horizon = getD (w .horizons) k 0;
+      start = 0;
     }
 
 -- the text of the line of the k-th workload, k from 0: what the question "span" answers

@@ -1,10 +1,11 @@
 -- Placement: shares of the intervals, placements, the greatest total stall, and the answered placement.
 use mathlib.Core.Path.{_≡_}
 use mathlib.Core.Logic.{_⊎_}
+use mathlib.Core.Bool.{cond}
 use mathlib.Core.List.{List, [], _∷_}
 use Prim.Native.Nat.{ℕ, _+_, _-_, _*_, _≤_, _<_, min}
 use Rattle.meaning.specs.Fraction.{Fraction, whole, _≤ᶠ_, _+ᶠ_, roundUp}
-use Rattle.meaning.specs.Plan.{Plan, sumOf, rows, fullCycles, inCycle}
+use Rattle.meaning.specs.Plan.{Plan, sumOf, periods, lengthsFrom, rows, fullCycles, inCycle}
 use Rattle.meaning.specs.Curve.{Curve, limit, EnvelopeOf, intervalStall}
 
 -- an interval's share w of the span, and its curve
@@ -17,9 +18,23 @@ unfoldable pub shares : ℕ → ℕ → List ℕ → List ℕ
 shares cycles w [] = []
 shares cycles w (l ∷ ls) = (cycles * l + min l w) ∷ shares cycles (w - l) ls
 
--- the shares of a plan's intervals at W: the one place where a plan's shares are made
+-- the shares of n periods from a plan's beginning
 abbrev pub sharesAt : Plan → ℕ → List ℕ
-sharesAt p w = shares (fullCycles p w) (inCycle p w) (p .lengths)
+sharesAt p n = shares (fullCycles p n) (inCycle p n) (p .lengths)
+
+-- what is left of W for later cycles when the first, from a start below T on, is over; a plain plan has no later ones
+abbrev pub laterPeriods : Plan → ℕ → ℕ → ℕ
+laterPeriods p start w = cond (p .repeating) (w - (periods p - start)) 0
+
+-- for each interval the two numbers that it has, added
+unfoldable pub together : List ℕ → List ℕ → List ℕ
+together [] ys = []
+together (x ∷ xs) [] = []
+together (x ∷ xs) (y ∷ ys) = (x + y) ∷ together xs ys
+
+-- the shares of a plan's intervals at W from a start below T (any other is refused): those in the part of the plan that begins there, and those in the later cycles, which are whole; the one place where the shares of a question are made
+abbrev pub sharesFrom : Plan → ℕ → ℕ → List ℕ
+sharesFrom p start w = together (shares 0 w (lengthsFrom start (p .lengths))) (sharesAt p (laterPeriods p start w))
 
 -- the parts are these shares with the envelopes of these budgets
 abbrev pub PartsOf : ℕ → ℕ → List ℕ → List (List ℕ) → List Part → Type 0
@@ -85,6 +100,6 @@ pub record AnsweredWith (p : Plan) (core requests : ℕ) (ws xs : List ℕ) (sta
   pub answered : Answered parts requests xs
   pub rounded : stall ≡ roundUp (total parts xs)
 
--- the answered placement at W
-abbrev pub AnsweredAt : Plan → ℕ → ℕ → ℕ → List ℕ → ℕ → Type 0
-AnsweredAt p core requests w = AnsweredWith p core requests (sharesAt p w)
+-- the answered placement at W from a start: a number for every interval, 0 for those dropped and not met again
+abbrev pub AnsweredAt : Plan → ℕ → ℕ → ℕ → ℕ → List ℕ → ℕ → Type 0
+AnsweredAt p core requests start w = AnsweredWith p core requests (sharesFrom p start w)

@@ -42,12 +42,13 @@ pub record Plan : Type 0 where
   pub lengths : List ℕ
   pub budgets : List ℕ
 
--- the core under analysis, computing E in slots, requests, and the horizon H in periods
+-- the core under analysis, computing E in slots, requests, the horizon H in periods, and the start, in whole periods after the plan's beginning, from which H counts
 pub record Workload : Type 0 where
   pub core : ℕ
   pub computing : ℕ
   pub requests : ℕ
   pub horizon : ℕ
+  pub start : ℕ
 
 -- the sum of a list
 abbrev pub sumOf : List ℕ → ℕ
@@ -62,19 +63,24 @@ intervals p = length (p .lengths)
 abbrev pub periods : Plan → ℕ
 periods p = sumOf (p .lengths)
 
--- the most periods that a horizon, a given W or a run has, by the mark and T: T, and 65,535 where the plan repeats
+-- the lengths that a start leaves: the intervals before it are dropped, the one it falls in is shortened, those behind it are whole
+unfoldable pub lengthsFrom : ℕ → List ℕ → List ℕ
+lengthsFrom start [] = []
+lengthsFrom start (l ∷ ls) = (l - start) ∷ lengthsFrom (start - l) ls
+
+-- the most periods that a horizon, a given W or a run has, by the mark and what the start leaves of T: just that, and 65,535 where the plan repeats
 abbrev pub spanLimit : Bool → ℕ → ℕ
-spanLimit repeating total = cond repeating mostPeriods total
+spanLimit repeating left = cond repeating mostPeriods left
 
--- that of a plan
-abbrev pub mostSpan : Plan → ℕ
-mostSpan p = spanLimit (p .repeating) (periods p)
+-- that of a plan from a start: T less the start, and 65,535 where the plan repeats
+abbrev pub mostSpan : Plan → ℕ → ℕ
+mostSpan p start = spanLimit (p .repeating) (periods p - start)
 
--- the full cycles in n periods, so that W = k·T is k of them; a plain plan is not started over
+-- the full cycles in n periods, so that n = k·T is k of them; a plain plan is not started over
 abbrev pub fullCycles : Plan → ℕ → ℕ
 fullCycles p n = cond (p .repeating) (n / periods p) 0
 
--- what is left of n periods for the last cycle, so that W = k·T has no part of it; also the place in its cycle of period n, both from 0
+-- what is left of n periods for the last cycle, so that n = k·T has no part of it; also the place in its cycle of period n, both from 0
 abbrev pub inCycle : Plan → ℕ → ℕ
 inCycle p n = cond (p .repeating) (n % periods p) n
 

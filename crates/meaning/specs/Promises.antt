@@ -61,15 +61,15 @@ pub record PlacementFigures : Type 0 where
   pub refused : ℕ
   pub stall : ℕ
 
--- placement and stall at a given W: refused with zeros and the place kept, or the answered placement from the front of the place
-abbrev pub PlacementPromise : Plan → ℕ → ℕ → ℕ → List ℕ → PlacementFigures → List ℕ → Type 0
-PlacementPromise p core requests n place a after =
+-- placement and stall at a given W from a start: refused with zeros and the place kept, or the answered placement from the front of the place
+abbrev pub PlacementPromise : Plan → ℕ → ℕ → ℕ → ℕ → List ℕ → PlacementFigures → List ℕ → Type 0
+PlacementPromise p core requests start n place a after =
     RefusedOr
-    (placementRefusal p core requests n (length place))
+    (placementRefusal p core requests start n (length place))
     (λ number. (a ≡ record { refused = number; stall = 0 }) × (after ≡ place))
     ((xs : List ℕ)
     × (stall : ℕ)
-    × AnsweredAt p core requests n xs stall
+    × AnsweredAt p core requests start n xs stall
     × (a ≡ record { refused = 0; stall = stall })
     × (after ≡ written xs place))
 

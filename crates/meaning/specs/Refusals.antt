@@ -4,7 +4,7 @@ use mathlib.Core.List.{List, [], _∷_}
 use Prim.Native.Nat.{ℕ, zero, suc, _+_, _*_}
 use lib.ListN.{length}
 use lib.Dec.{leb, ltb, eqb}
-use Rattle.meaning.specs.Plan.{Plan, Workload, sumOf, intervals, mostSpan, rows, budgetOf}
+use Rattle.meaning.specs.Plan.{Plan, Workload, sumOf, intervals, periods, mostSpan, rows, budgetOf}
 use Rattle.meaning.specs.Plan.{mostCores, mostPerPeriod, mostIntervals, mostPeriods, mostWork}
 
 infixr 20 _before_
@@ -65,9 +65,13 @@ computingRefusal computing = refusedIf (outside 1 mostWork computing) 8
 abbrev pub requestsRefusal : ℕ → ℕ
 requestsRefusal requests = refusedIf (outside 0 mostWork requests) 9
 
--- 10: horizon (or given W) not 1..T, or 1..65,535 where the plan repeats
-abbrev pub horizonRefusal : Plan → ℕ → ℕ
-horizonRefusal p n = refusedIf (outside 1 (mostSpan p) n) 10
+-- 14: start not below T, also where the plan repeats
+abbrev pub startRefusal : Plan → ℕ → ℕ
+startRefusal p start = refusedIf (not (ltb start (periods p))) 14
+
+-- 10: horizon (or given W) not 1 to T less the start, or 1..65,535 where the plan repeats
+abbrev pub horizonRefusal : Plan → ℕ → ℕ → ℕ
+horizonRefusal p start n = refusedIf (outside 1 (mostSpan p start) n) 10
 
 -- 11: the lent result has no room for so many numbers
 abbrev pub roomRefusal : ℕ → ℕ → ℕ
@@ -90,21 +94,23 @@ unfoldable pub cornersRefusal : ℕ → ℕ → List ℕ → ℕ → ℕ
 cornersRefusal m perPeriod budgets core =
     planRefusal (oneInterval m perPeriod budgets) before coreRefusal (oneInterval m perPeriod budgets) core
 
--- placement and stall at a given W: 1 to 6, 9, 10, 11
-unfoldable pub placementRefusal : Plan → ℕ → ℕ → ℕ → ℕ → ℕ
-placementRefusal p core requests n room =
+-- placement and stall at a given W: 1 to 6, 9, 14, 10, 11
+unfoldable pub placementRefusal : Plan → ℕ → ℕ → ℕ → ℕ → ℕ → ℕ
+placementRefusal p core requests start n room =
     planRefusal p
     before coreRefusal p core
     before requestsRefusal requests
-    before horizonRefusal p n
+    before startRefusal p start
+    before horizonRefusal p start n
     before roomRefusal (intervals p) room
 
--- span: 1 to 6, 8 to 11; 12 is judged with the span
+-- span: 1 to 6, 8, 9, 14, 10, 11; 12 is judged with the span
 unfoldable pub spanRefusal : Plan → Workload → ℕ → ℕ
 spanRefusal p w room =
     planRefusal p
     before coreRefusal p (w .core)
     before computingRefusal (w .computing)
     before requestsRefusal (w .requests)
-    before horizonRefusal p (w .horizon)
+    before startRefusal p (w .start)
+    before horizonRefusal p (w .start) (w .horizon)
     before roomRefusal (intervals p) room

@@ -37,10 +37,10 @@ computed ds = sumOf (map (λ (d : Period). d .computing) ds)
 abbrev pub requested : List Period → ℕ
 requested ds = sumOf (map (λ (d : Period). d .requests) ds)
 
--- a lawful run: at most T periods, or 65,535 where the plan repeats, starting with the plan's first; the computing sums to at most E, the requests to at most the workload's
+-- a lawful run: at most T less the start periods, or 65,535 where the plan repeats, the first of them the plan's at the start; the computing sums to at most E, the requests to at most the workload's
 pub record Lawful (p : Plan) (w : Workload) (run : List Period) : Type 0 where
-  pub within : length run ≤ mostSpan p
-  pub periodByPeriod : LawfulFrom p (w .core) 0 run
+  pub within : length run ≤ mostSpan p (w .start)
+  pub periodByPeriod : LawfulFrom p (w .core) (w .start) run
   pub computing : computed run ≤ w .computing
   pub requests : requested run ≤ w .requests
 

@@ -5,19 +5,19 @@ use mathlib.Core.List.{List}
 use Prim.Native.Nat.{ℕ, zero, suc, _+_, _*_, _≤_, _<_}
 use Rattle.meaning.specs.Fraction.{Fraction, whole, _≤ᶠ_, _+ᶠ_, dividedBy, roundUp}
 use Rattle.meaning.specs.Plan.{Plan, Workload}
-use Rattle.meaning.specs.Placement.{sharesAt, GreatestStall, AnsweredAt}
+use Rattle.meaning.specs.Placement.{sharesFrom, GreatestStall, AnsweredAt}
 
 -- the computing and the requests, in slots: a request is one slot
 abbrev pub work : Workload → ℕ
 work w = w .computing + w .requests
 
--- S(W) for a workload
+-- S(W) for a workload, W counted from its start
 abbrev pub StallAt : Plan → Workload → ℕ → Fraction → Type 0
-StallAt p w n f = GreatestStall p (w .core) (w .requests) (sharesAt p n) f
+StallAt p w n f = GreatestStall p (w .core) (w .requests) (sharesFrom p (w .start) n) f
 
 -- the answered placement of a workload at W, and its stall
 abbrev pub PlacedAt : Plan → Workload → ℕ → List ℕ → ℕ → Type 0
-PlacedAt p w n = AnsweredAt p (w .core) (w .requests) n
+PlacedAt p w n = AnsweredAt p (w .core) (w .requests) (w .start) n
 
 -- W holds the work: E + requests + S(W) is at most W·Q
 pub record Holds (p : Plan) (w : Workload) (n : ℕ) : Type 0 where

@@ -1,14 +1,14 @@
 -- Lists and sums: what is given for each index, what each member has, and the sum of a list.
-use mathlib.Core.Path.{_≡_, refl, sym, ap, ap₂}
+use mathlib.Core.Path.{_≡_, refl, sym, ap, ap₂, subst}
 use mathlib.Core.Logic.{⊎-elim}
 use mathlib.Core.List.{List, [], _∷_, _++_}
-use Prim.Native.Nat.{ℕ, zero, suc, _+_, _*_, _≤_, _<_}
+use Prim.Native.Nat.{ℕ, zero, suc, _+_, _-_, _*_, _≤_, _<_}
 use native.Mathlib.Nat.{le-refl, le-of-suc-le, lt-irrefl, eq-or-lt-of-le, le-of-suc-le-suc, not-suc-le-zero}
 use native.Mathlib.Omega.{arith}
-use lib.ListN.{length, getD, drop}
+use lib.ListN.{length, getD, take, drop, length-drop}
 use Rattle.meaning.specs.Plan.{sumOf, All}
 use native.Mathlib.Numerals.{add-one}
-use lib.Seq.{drop-cons}
+use lib.Seq.{take-all, drop-cons}
 
 -- f i, f (i + 1), and so on, n of them
 unfoldable pub listFrom : {A : Type 0} → ℕ → ℕ → (ℕ → A) → List A
@@ -99,3 +99,7 @@ sum-from l i h = rw (add-one, drop-cons l i 0 h)
 pub sum-append : (xs ys : List ℕ) → sumOf (xs ++ ys) ≡ sumOf xs + sumOf ys
 sum-append [] ys = omega arith
 sum-append (x ∷ xs) ys = omega (arith, sum-append xs ys)
+
+-- a part of a list from place a on is what follows the first a
+pub from-middle : {A : Type 0} (a : ℕ) (l : List A) → take (length l - a) (drop a l) ≡ drop a l
+from-middle a l = take-all (length l - a) (drop a l) (subst (λ (n : ℕ). n ≤ length l - a) (sym (length-drop a l)) (le-refl (length l - a)))

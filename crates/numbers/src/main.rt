@@ -54,14 +54,25 @@ fn tell_corners(words: &[u8], budgets: &[u16], core: u8, rates: &mut [u16]) {
     }
 }
 
-// A workload by its numbers.
-fn work(core: u8, computing: u32, requests: u32, horizon: u16) -> Workload {
+// A workload by its numbers, that starts later.
+fn work_from(start: u16, core: u8, computing: u32, requests: u32, horizon: u16) -> Workload {
     Workload {
         core,
         computing: Slots(computing),
         requests: Requests(requests),
         horizon: Periods(horizon),
+        start: Periods(start),
     }
+}
+
+// A workload by its numbers, from the plan's beginning.
+fn work(core: u8, computing: u32, requests: u32, horizon: u16) -> Workload {
+    work_from(0, core, computing, requests, horizon)
+}
+
+// So many requests of a core to be placed from a start; computing and horizon are not read.
+fn placed_from(start: u16, core: u8, requests: u32) -> Workload {
+    work_from(start, core, 0, requests, 0)
 }
 
 // A span with budgets 2, 2, 5, 7, Q = 16 and one interval of so many periods, repeating or plain.
@@ -102,7 +113,7 @@ fn span_alone(words: &[u8], budget: u16, workload: Workload) {
 fn span_of_listing(words: &[u8], repeating: bool, workload: Workload) {
     let lengths = [1u16, 4];
     let budgets = [2u16, 2, 5, 7, 4, 4, 4, 4];
-    let mut placement = [0u32; 2];
+    let mut placement = [9u32; 2];
     tell_span(
         words,
         four_cores(repeating),
@@ -113,18 +124,17 @@ fn span_of_listing(words: &[u8], repeating: bool, workload: Workload) {
     );
 }
 
-// 25 requests of core 3 placed at W on the listing's plan, repeating.
-fn placement_of_listing(words: &[u8], periods: u16) {
+// Requests of core 3 placed at W from a start on the listing's plan, repeating; a place left as it was would show a 9.
+fn placement_of_listing(words: &[u8], start: u16, requests: u32, periods: u16) {
     let lengths = [1u16, 4];
     let budgets = [2u16, 2, 5, 7, 4, 4, 4, 4];
-    let mut placed = [0u32; 2];
+    let mut placed = [9u32; 2];
     tell_placement(
         words,
         four_cores(true),
         &lengths,
         &budgets,
-        3,
-        Requests(25),
+        placed_from(start, 3, requests),
         Periods(periods),
         &mut placed,
     );
@@ -155,8 +165,7 @@ fn placement_of_parked(words: &[u8], periods: u16) {
         four_cores(false),
         &lengths,
         &budgets,
-        1,
-        Requests(2),
+        placed_from(0, 1, 2),
         Periods(periods),
         &mut placed,
     );
@@ -189,14 +198,12 @@ fn section_six() {
     let lengths = [5u16, 3, 7];
     let budgets = [2u16, 2, 5, 7, 2, 3, 7, 4, 5, 5, 1, 5];
     let mut placed = [0u32; 3];
-    let requests = Requests(25);
     tell_placement(
         words,
         four_cores(false),
         &lengths,
         &budgets,
-        3,
-        requests,
+        placed_from(0, 3, 25),
         Periods(6),
         &mut placed,
     );
@@ -208,14 +215,12 @@ fn exact_fraction() {
     let lengths = [20u16];
     let budgets = [2u16, 2, 5, 7];
     let mut placed = [0u32; 1];
-    let requests = Requests(35);
     tell_placement(
         words,
         four_cores(false),
         &lengths,
         &budgets,
-        3,
-        requests,
+        placed_from(0, 3, 35),
         Periods(9),
         &mut placed,
     );
@@ -227,14 +232,12 @@ fn rounded_once() {
     let lengths = [1u16, 1, 1];
     let budgets = [2u16, 2, 5, 7, 2, 2, 5, 7, 2, 2, 5, 7];
     let mut placed = [0u32; 3];
-    let requests = Requests(9);
     tell_placement(
         words,
         four_cores(false),
         &lengths,
         &budgets,
-        3,
-        requests,
+        placed_from(0, 3, 9),
         Periods(3),
         &mut placed,
     );
@@ -246,7 +249,6 @@ fn unequal_slopes() {
     let lengths = [1u16, 1];
     let budgets = [40u16, 64, 39, 65];
     let mut placed = [0u32; 2];
-    let requests = Requests(39);
     let head = Head {
         cores: 2,
         per_period: Slots(104),
@@ -257,8 +259,7 @@ fn unequal_slopes() {
         head,
         &lengths,
         &budgets,
-        1,
-        requests,
+        placed_from(0, 1, 39),
         Periods(2),
         &mut placed,
     );
@@ -341,9 +342,9 @@ fn cycles() {
     span_of_listing(b"plain, E 40:", false, work(3, 40, 35, last));
     span_of_listing(b"plain, E 40, H = 11:", false, work(3, 40, 35, 11));
     span_of_listing(b"repeating, E 100:", true, work(3, 100, 100, last));
-    placement_of_listing(b"repeating, at W = 12:", 12);
-    placement_of_listing(b"repeating, at W = 65,535:", last);
-    placement_of_listing(b"repeating, at W = 0:", 0);
+    placement_of_listing(b"repeating, at W = 12:", 0, 25, 12);
+    placement_of_listing(b"repeating, at W = 65,535:", 0, 25, last);
+    placement_of_listing(b"repeating, at W = 0:", 0, 25, 0);
     span_of_one(
         b"one period that repeats, P4:",
         true,
@@ -378,6 +379,41 @@ fn parked() {
     parked_all_the_way();
 }
 
+// Two intervals of 2 periods with the same budgets, repeating: interval 1 is met last and is filled first.
+fn met_last() {
+    let words = b"two equal intervals, start 2, 10 requests at W = 3:";
+    let lengths = [2u16, 2];
+    let budgets = [4u16; 8];
+    let mut placed = [9u32; 2];
+    tell_placement(
+        words,
+        four_cores(true),
+        &lengths,
+        &budgets,
+        placed_from(2, 3, 10),
+        Periods(3),
+        &mut placed,
+    );
+}
+
+// Tasks that start later on the listing's plan (2026-03).
+fn started() {
+    let last = Periods::MAX;
+    span_of_listing(b"start 1, H = 4:", false, work_from(1, 3, 10, 10, 4));
+    span_of_listing(b"start 2, H = 3:", false, work_from(2, 3, 10, 10, 3));
+    span_of_listing(b"start 4, H = 1:", false, work_from(4, 3, 10, 10, 1));
+    span_of_listing(b"start 4, H = 2:", false, work_from(4, 3, 10, 10, 2));
+    span_of_listing(b"start 5, H = 1:", false, work_from(5, 3, 10, 10, 1));
+    span_of_listing(b"repeating, start 5:", true, work_from(5, 3, 10, 10, last));
+    span_of_listing(b"repeating, start 3:", true, work_from(3, 3, 10, 10, last));
+    placement_of_listing(b"repeating, start 3, at W = 5:", 3, 8, 5);
+    placement_of_listing(b"repeating, start 4, at W = 1:", 4, 8, 1);
+    placement_of_listing(b"repeating, start 4, at W = 2:", 4, 8, 2);
+    placement_of_listing(b"repeating, start 4, at W = 6:", 4, 8, 6);
+    placement_of_listing(b"repeating, start 4, at W = 7:", 4, 8, 7);
+    met_last();
+}
+
 // Computing, requests and the length of a file, at their limits and one past them.
 fn limits() {
     let last = Periods::MAX;
@@ -405,5 +441,6 @@ fn main() {
     unequal_slopes();
     cycles();
     parked();
+    started();
     limits();
 }

@@ -1,11 +1,13 @@
 pub mod Shares
+pub mod PlanShares
 pub mod CertifiedPlacement
 pub mod Filling
 pub mod FillingCertified
 pub mod FillingAnswers
 pub mod OrderMerged
 pub mod StallUnique
+pub mod PartsBehind
+pub mod PartsDropped
 pub mod PlacementExists
 pub mod StallGrows
 pub mod PlacementQuestion
-pub mod PartsBehind

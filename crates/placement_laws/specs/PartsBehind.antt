@@ -21,7 +21,7 @@ use Rattle.curve_laws.specs.Certificate.{partStall}
 use Rattle.placement_laws.specs.StallUnique.{parts-proper}
 
 -- fractions of one value have sums of one value
-same-added : (f g h k : Fraction) → f =ᶠ g → h =ᶠ k → f +ᶠ h =ᶠ g +ᶠ k
+pub same-added : (f g h k : Fraction) → f =ᶠ g → h =ᶠ k → f +ᶠ h =ᶠ g +ᶠ k
 same-added f g h k fg hk =
     same-of-le (f +ᶠ h) (g +ᶠ k) (sum-le f h g k (le-of-eq fg) (le-of-eq hk)) (sum-le g k f h (le-of-eq (sym fg)) (le-of-eq (sym hk)))
 
@@ -144,7 +144,7 @@ not-ahead-behind (p ∷ ps) (y ∷ ys) (x ∷ xs) zs fy fx (inr same) =
     inr (same .0, not-ahead-behind ps ys xs zs (fy .1) (fx .1) (same .1))
 
 -- the order of two fractions is that of two others of their values
-le-of-same : (f f' g g' : Fraction) → Proper f' → Proper g' → f =ᶠ f' → g =ᶠ g' → f' ≤ᶠ g' → f ≤ᶠ g
+pub le-of-same : (f f' g g' : Fraction) → Proper f' → Proper g' → f =ᶠ f' → g =ᶠ g' → f' ≤ᶠ g' → f ≤ᶠ g
 le-of-same f f' g g' properF properG ef eg le =
     le-trans-fraction f f' g properF (le-of-eq ef) (le-trans-fraction f' g' g properG le (le-of-eq (sym eg)))
 

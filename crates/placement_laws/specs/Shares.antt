@@ -1,20 +1,15 @@
--- Shares: one record holds all that the laws need of how periods are shared out among intervals; it is given for a plan's shares, plain or repeating, at the end of this file, with what intervals added behind do to them, and the laws of spans and runs use nothing else.
+-- Shares: one record holds all that the laws of spans and runs need of how periods are shared out among intervals, but for intervals added behind; PlanShares gives it for a plan's shares, and says what these do. Then the shares of lengths that are given.
 use mathlib.Core.Path.{_≡_, refl, sym, ap, ap₂, _∙_, subst}
 use mathlib.Core.Logic.{⊎-elim}
-use mathlib.Core.Bool.{Bool, true, false}
-use mathlib.Core.List.{List, [], _∷_, _++_, map}
-use Prim.Native.Nat.{ℕ, zero, suc, _+_, _-_, _*_, _/_, _%_, _≤_, _<_, min}
-use native.Mathlib.Nat.{le-refl, le-trans, le-of-suc-le-suc, not-suc-le-zero, eq-or-lt-of-le, div-add-mod', mod-lt}
+use mathlib.Core.List.{List, [], _∷_}
+use Prim.Native.Nat.{ℕ, zero, suc, _+_, _-_, _*_, _≤_, _<_, min}
+use native.Mathlib.Nat.{le-refl, le-trans, le-of-suc-le-suc, not-suc-le-zero, eq-or-lt-of-le}
 use native.Mathlib.Omega.{arith}
 use lib.ListN.{length, getD, replicate}
-use lib.Arith.{digits-div, digits-mod}
 use borrow.Author.Tests.{lt-ltb, le-ltb}
-use Rattle.meaning.specs.Plan.{Plan, sumOf, intervals, periods, mostSpan, intervalOf, intervalAt}
-use Rattle.meaning.specs.Placement.{shares, sharesAt}
-use Rattle.meaning.specs.Refusals.{planRefusal}
-use Rattle.meaning.specs.Again.{longer, zerosFor}
+use Rattle.meaning.specs.Plan.{sumOf, intervalOf}
+use Rattle.meaning.specs.Placement.{shares}
 use Rattle.number_laws.specs.Order.{le-or-lt}
-use Rattle.plan_laws.specs.SoundPlan.{SoundPlan, sound-plan, plan-sound, some-periods}
 
 -- one more for member j
 unfoldable pub raisedAt : ℕ → List ℕ → List ℕ
@@ -72,7 +67,8 @@ no-less-raised j [] = tt
 no-less-raised zero (w ∷ ws) = (omega arith, no-less-itself ws)
 no-less-raised (suc j) (w ∷ ws) = (le-refl w, no-less-raised j ws)
 
-no-less-more : (j : ℕ) (ws vs : List ℕ) → vs ≡ raisedAt j ws → NoLess ws vs
+-- one more for one of them is no less for any
+pub no-less-more : (j : ℕ) (ws vs : List ℕ) → vs ≡ raisedAt j ws → NoLess ws vs
 no-less-more j ws vs more = subst (NoLess ws) (sym more) (no-less-raised j ws)
 
 no-less-trans : (xs ys zs : List ℕ) → NoLess xs ys → NoLess ys zs → NoLess xs zs
@@ -125,7 +121,8 @@ unfolding shares
 many-shares cycles w [] = refl
 many-shares cycles w (l ∷ ls) = ap suc (many-shares cycles (w - l) ls)
 
-no-shares : (ls : List ℕ) → shares 0 0 ls ≡ replicate (length ls) 0
+-- of no periods each gets 0
+pub no-shares : (ls : List ℕ) → shares 0 0 ls ≡ replicate (length ls) 0
 unfolding shares
 no-shares [] = refl
 no-shares (l ∷ ls) =
@@ -133,7 +130,8 @@ no-shares (l ∷ ls) =
     let rest : 0 - l ≡ 0 = omega arith in
     ap₂ _∷_ own (ap (λ (n : ℕ). shares 0 n ls) rest ∙ no-shares ls)
 
-met-inside : (ls : List ℕ) (k : ℕ) → k < sumOf ls → intervalOf ls k < length ls
+-- a period lies in one of them
+pub met-inside : (ls : List ℕ) (k : ℕ) → k < sumOf ls → intervalOf ls k < length ls
 unfolding intervalOf
 met-inside [] k h = absurd (not-suc-le-zero h)
 met-inside (l ∷ ls) k h =
@@ -143,7 +141,7 @@ met-inside (l ∷ ls) k h =
     (le-or-lt l k)
 
 -- a period more of the last cycle is its interval's
-one-more-share : (cycles : ℕ) (ls : List ℕ) (k : ℕ)
+pub one-more-share : (cycles : ℕ) (ls : List ℕ) (k : ℕ)
     → k < sumOf ls
     → shares cycles (suc k) ls ≡ raisedAt (intervalOf ls k) (shares cycles k ls)
 unfolding shares intervalOf raisedAt
@@ -162,7 +160,7 @@ one-more-share cycles (l ∷ ls) k h =
     (le-or-lt l k)
 
 -- a last cycle that is whole is one full cycle more, and no part
-whole-cycle : (cycles : ℕ) (ls : List ℕ) (w : ℕ) → sumOf ls ≤ w → shares cycles w ls ≡ shares (suc cycles) 0 ls
+pub whole-cycle : (cycles : ℕ) (ls : List ℕ) (w : ℕ) → sumOf ls ≤ w → shares cycles w ls ≡ shares (suc cycles) 0 ls
 unfolding shares
 whole-cycle cycles [] w h = refl
 whole-cycle cycles (l ∷ ls) w h =
@@ -170,134 +168,8 @@ whole-cycle cycles (l ∷ ls) w h =
     let rest : 0 - l ≡ 0 = omega arith in
     ap₂ _∷_ own (whole-cycle cycles ls (w - l) (omega (arith, h)) ∙ ap (λ (n : ℕ). shares (suc cycles) n ls) (sym rest))
 
-no-less-shares : (w v : ℕ) (ls : List ℕ) → w ≤ v → NoLess (shares 0 w ls) (shares 0 v ls)
+-- of more periods none gets less
+pub no-less-shares : (w v : ℕ) (ls : List ℕ) → w ≤ v → NoLess (shares 0 w ls) (shares 0 v ls)
 unfolding shares
 no-less-shares w v [] le = tt
 no-less-shares w v (l ∷ ls) le = (omega (arith, le), no-less-shares (w - l) (v - l) ls (omega (arith, le)))
-
--- a plan with this mark
-abbrev pub marked : Bool → Plan → Plan
-marked repeating p =
-    record {
-      cores = p .cores;
-      perPeriod = p .perPeriod;
-      repeating = repeating;
-      lengths = p .lengths;
-      budgets = p .budgets;
-    }
-
-module _ (p : Plan) (some : 1 ≤ periods p) where
-  -- so many full cycles and a part of the last one
-  in-cycles : (n cycles part : ℕ)
-      → n ≡ cycles * periods p + part
-      → part < periods p
-      → sharesAt (marked true p) n ≡ shares cycles part (p .lengths)
-  in-cycles n cycles part e inside =
-      ap₂ (λ (c k : ℕ). shares c k (p .lengths))
-      (ap (λ (k : ℕ). k / periods p) e ∙ digits-div cycles inside)
-      (ap (λ (k : ℕ). k % periods p) e ∙ digits-mod cycles inside)
-
-  -- a period more is its interval's, cycle after cycle
-  one-more-in-cycle : (k : ℕ) → sharesAt (marked true p) (suc k) ≡ raisedAt (intervalAt (marked true p) k) (sharesAt (marked true p) k)
-  one-more-in-cycle k =
-      let cycles = k / periods p in
-      let part = k % periods p in
-      let inside : part < periods p = mod-lt k some in
-      let all = div-add-mod' k (periods p) in
-      ⊎-elim
-      (λ whole.
-      in-cycles (suc k) (suc cycles) 0 (omega (arith, all, inside, whole)) some
-      ∙ sym (whole-cycle cycles (p .lengths) (suc part) whole))
-      (λ within. in-cycles (suc k) cycles (suc part) (omega (arith, all)) within)
-      (le-or-lt (periods p) (suc part))
-      ∙ one-more-share cycles (p .lengths) part inside
-
-  -- the shares with either mark
-  sharing : (repeating : Bool)
-      → Sharing
-      (intervals p)
-      (mostSpan (marked repeating p))
-      (sharesAt (marked repeating p))
-      (intervalAt (marked repeating p))
-  sharing true =
-      record {
-        many = λ w. many-shares (w / periods p) (w % periods p) (p .lengths);
-        none = in-cycles 0 0 0 (omega arith) some ∙ no-shares (p .lengths);
-        inside = λ k h. met-inside (p .lengths) (k % periods p) (mod-lt k some);
-        more = λ k h. one-more-in-cycle k;
-        past = λ k h. no-less-more _ _ _ (one-more-in-cycle k);
-      }
-  sharing false =
-      record {
-        many = λ w. many-shares 0 w (p .lengths);
-        none = no-shares (p .lengths);
-        inside = met-inside (p .lengths);
-        more = one-more-share 0 (p .lengths);
-        past = λ k h. no-less-shares k (suc k) (p .lengths) (omega arith);
-      }
-
-  -- up to T they are those of the plain plan
-  first-cycle : (repeating : Bool) (w : ℕ) → w ≤ periods p → sharesAt (marked repeating p) w ≡ shares 0 w (p .lengths)
-  first-cycle true w le =
-      ⊎-elim
-      (λ whole. in-cycles w 1 0 (omega (arith, le, whole)) some ∙ sym (whole-cycle 0 (p .lengths) w whole))
-      (λ within. in-cycles w 0 w (omega arith) within)
-      (le-or-lt (periods p) w)
-  first-cycle false w le = refl
-
-  -- so up to the limit they are those of the plan that starts over
-  starts-over : (repeating : Bool) (w : ℕ)
-      → w ≤ mostSpan (marked repeating p)
-      → sharesAt (marked true p) w ≡ sharesAt (marked repeating p) w
-  starts-over true w inside = refl
-  starts-over false w inside = first-cycle true w inside
-
--- each interval gets its length once for each of k full cycles
-all-cycles : (k : ℕ) (ls : List ℕ) → shares k 0 ls ≡ map (λ (l : ℕ). k * l) ls
-unfolding shares
-all-cycles k [] = refl
-all-cycles k (l ∷ ls) =
-    let own : k * l + min l 0 ≡ k * l = omega arith in
-    let rest : 0 - l ≡ 0 = omega arith in
-    ap₂ _∷_ own (ap (λ (n : ℕ). shares k n ls) rest ∙ all-cycles k ls)
-
--- the shares of a plan, plain or repeating
-pub plan-sharing : (p : Plan) → SoundPlan p → Sharing (intervals p) (mostSpan p) (sharesAt p) (intervalAt p)
-plan-sharing p sound = sharing p (some-periods p sound) (p .repeating)
-
--- up to T they are those of the plain plan
-pub plan-first-cycle : (p : Plan) (w : ℕ) → SoundPlan p → w ≤ periods p → sharesAt p w ≡ shares 0 w (p .lengths)
-plan-first-cycle p w sound = first-cycle p (some-periods p sound) (p .repeating) w
-
--- up to its limit they are those of the plan that starts over
-pub plan-starts-over : (p : Plan) (w : ℕ) → SoundPlan p → w ≤ mostSpan p → sharesAt (marked true p) w ≡ sharesAt p w
-plan-starts-over p w sound = starts-over p (some-periods p sound) (p .repeating) w
-
--- which is as sound
-pub marked-sound : (repeating : Bool) (p : Plan) → SoundPlan p → SoundPlan (marked repeating p)
-unfolding planRefusal
-marked-sound repeating p sound = sound-plan (marked repeating p) (plan-sound p sound)
-
--- W = k·T is k full cycles and no part
-pub plan-full-cycles : (p : Plan) (k : ℕ)
-    → SoundPlan p
-    → p .repeating ≡ true
-    → sharesAt p (k * periods p) ≡ map (λ (l : ℕ). k * l) (p .lengths)
-plan-full-cycles p k sound mark =
-    let some = some-periods p sound in
-    rw mark (in-cycles p some (k * periods p) k 0 (omega arith) some ∙ all-cycles k (p .lengths))
-
-shares-behind : (n : ℕ) (ls ls' : List ℕ) → n ≤ sumOf ls → shares 0 n (ls ++ ls') ≡ shares 0 n ls ++ zerosFor ls'
-unfolding shares
-shares-behind n [] [] le = refl
-shares-behind n [] (l ∷ ls') le =
-    ap₂ _∷_ (omega (arith, le)) (shares-behind (n - l) [] ls' (omega (arith, le)))
-shares-behind n (l ∷ ls) ls' le =
-    ap (λ (ws : List ℕ). (0 * l + min l n) ∷ ws) (shares-behind (n - l) ls ls' (omega (arith, le)))
-
--- nothing is left of W behind a plain plan's own periods: intervals added there have a share of 0
-pub plan-shares-behind : (p : Plan) (ls bs : List ℕ) (n : ℕ)
-    → p .repeating ≡ false
-    → n ≤ mostSpan p
-    → sharesAt (longer p ls bs) n ≡ sharesAt p n ++ zerosFor ls
-plan-shares-behind p ls bs n plain inside = rw plain (shares-behind n (p .lengths) ls (rw plain at inside))

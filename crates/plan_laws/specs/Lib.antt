@@ -1,4 +1,6 @@
 pub mod RefusalOrder
 pub mod SoundPlan
+pub mod PlanParts
+pub mod StartNone
 pub mod RefusedZeros
 pub mod SevenUnused

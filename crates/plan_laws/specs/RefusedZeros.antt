@@ -68,19 +68,19 @@ corners-refused-zeros m perPeriod budgets core place a after h refused =
         (figures ∙ ap (λ (b : CornersFigures). record { refused = b .refused; count = 0 }) (sym figures), kept)
 
 -- placement and stall at a given W
-pub placement-refused-zeros : (p : Plan) (core requests n : ℕ) (place : List ℕ) (a : PlacementFigures) (after : List ℕ)
-    → PlacementPromise p core requests n place a after
+pub placement-refused-zeros : (p : Plan) (core requests start n : ℕ) (place : List ℕ) (a : PlacementFigures) (after : List ℕ)
+    → PlacementPromise p core requests start n place a after
     → (a .refused ≡ 0 → ⊥)
     → (a ≡ record { refused = a .refused; stall = 0 }) × (after ≡ place)
-placement-refused-zeros p core requests n place a after h refused =
+placement-refused-zeros p core requests start n place a after h refused =
     by-number
     (λ (b : PlacementFigures). b .refused)
     (λ k. record { refused = k; stall = 0 })
     (λ k. refl)
-    (placementRefusal p core requests n (length place))
+    (placementRefusal p core requests start n (length place))
     ((xs : List ℕ)
     × (stall : ℕ)
-    × AnsweredAt p core requests n xs stall
+    × AnsweredAt p core requests start n xs stall
     × (a ≡ record { refused = 0; stall = stall })
     × (after ≡ written xs place))
     a

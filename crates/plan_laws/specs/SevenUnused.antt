@@ -10,7 +10,7 @@ use lib.ListN.{length}
 use lib.Count.{ones}
 use lib.Dec.{leb, ltb, eqb}
 use borrow.Author.Tests.{eqb-false}
-use Rattle.meaning.specs.Plan.{Plan, Workload, sumOf, intervals, mostSpan, budgetOf, mostCores, mostPerPeriod, mostWork, mostWorkloads}
+use Rattle.meaning.specs.Plan.{Plan, Workload, sumOf, intervals, periods, mostSpan, budgetOf, mostCores, mostPerPeriod, mostWork, mostWorkloads}
 use Rattle.meaning.specs.Curve.{Curve, count}
 use Rattle.meaning.specs.Span.{NoSpan}
 use Rattle.meaning.specs.Refusals.{refusedIf, _before_, outside, intervalsOutside, planRefusal, coreRefusal, oneInterval, rawRefusal, cornersRefusal, placementRefusal, spanRefusal}
@@ -87,16 +87,19 @@ corners-not-seven m perPeriod budgets core place a after =
     in-room c false e = is-other 11 (ap (λ (b : CornersFigures). b .refused) e) refl
 
 -- placement and stall at a given W
-pub placement-not-seven : (p : Plan) (core requests n : ℕ) (place : List ℕ) (a : PlacementFigures) (after : List ℕ)
-    → PlacementPromise p core requests n place a after
+pub placement-not-seven : (p : Plan) (core requests start n : ℕ) (place : List ℕ) (a : PlacementFigures) (after : List ℕ)
+    → PlacementPromise p core requests start n place a after
     → NotSeven (a .refused)
 unfolding placementRefusal
-placement-not-seven p core requests n place a after =
+placement-not-seven p core requests start n place a after =
     let nine = outside 0 mostWork requests in
-    let ten = outside 1 (mostSpan p) n in
+    let fourteen = not (ltb start (periods p)) in
+    let ten = outside 1 (mostSpan p start) n in
     let eleven = ltb (length place) (intervals p) in
-    judged-other (placementRefusal p core requests n (length place)) _ _ (a .refused)
-    (plan-first p _ (core-first p core _ (rule-first nine 9 _ refl (rule-first ten 10 _ refl (rule-other eleven 11 refl)))))
+    judged-other (placementRefusal p core requests start n (length place)) _ _ (a .refused)
+    (plan-first p _
+    (core-first p core _
+    (rule-first nine 9 _ refl (rule-first fourteen 14 _ refl (rule-first ten 10 _ refl (rule-other eleven 11 refl))))))
     (λ k h. ap (λ (b : PlacementFigures). b .refused) (h .0))
     (λ h. is-other 0 (ap (λ (b : PlacementFigures). b .refused) (h .3)) refl)
 
@@ -106,7 +109,7 @@ pub span-not-seven : (p : Plan) (w : Workload) (place : List ℕ) (a : SpanFigur
     → NotSeven (a .refused)
 span-not-seven p w place a after (xs, answer, kept) =
     judged-other (spanRefusal p w (length place)) _ _ (a .refused)
-    (span-has NotSeven p w (length place) (λ n le other. other))
+    (span-has NotSeven p w (length place) (λ n other twelve. other))
     (λ n h. ap (λ (b : SpanFigures). b .refused) (h .0))
     found
     answer

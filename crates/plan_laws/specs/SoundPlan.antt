@@ -2,16 +2,16 @@
 use mathlib.Core.Path.{_≡_, refl, ap}
 use mathlib.Core.Bool.{Bool, true, false, not, _||_}
 use mathlib.Core.List.{List, [], _∷_}
-use Prim.Native.Nat.{ℕ, zero, suc, _+_, _*_, _≤_, _<_, zero-le}
+use Prim.Native.Nat.{ℕ, zero, suc, _+_, _-_, _*_, _≤_, _<_, zero-le}
 use native.Mathlib.Nat.{le-refl, lt-irrefl, le-of-suc-le-suc, not-suc-le-zero, zero-mul, suc-mul, add-comm}
 use native.Mathlib.Numerals.{add-one}
 use native.Mathlib.Omega.{arith}
 use lib.ListN.{length, getD, take, drop, length-take, length-drop}
 use lib.Seq.{drop-drop, drop-cons}
 use lib.Dec.{ltb, eqb}
-use borrow.Author.Tests.{ltb-false, eqb-true, eqb-false, not-false, le-ltb, eq-eqb, ne-eqb}
+use borrow.Author.Tests.{ltb-true, ltb-false, eqb-true, eqb-false, not-false, lt-ltb, le-ltb, eq-eqb, ne-eqb}
 use Rattle.meaning.specs.Plan.{Plan, Workload, sumOf, intervals, periods, spanLimit, mostSpan, rowsOf, rows, All, mostCores, mostPerPeriod, mostIntervals, mostPeriods, mostWork}
-use Rattle.meaning.specs.Refusals.{refusedIf, _before_, outside, coresRefusal, perPeriodRefusal, intervalsOutside, intervalRefusal, intervalsRefusal, planRefusal, coreRefusal, spanRefusal}
+use Rattle.meaning.specs.Refusals.{refusedIf, _before_, outside, coresRefusal, perPeriodRefusal, intervalsOutside, intervalRefusal, intervalsRefusal, planRefusal, coreRefusal, startRefusal, spanRefusal}
 use Rattle.meaning.specs.Placement.{total}
 use Rattle.plan_laws.specs.RefusalOrder.{first-zero, second-zero, first-has, rule-has, both-zero, not-broken, not-refused, or-first, or-second, neither, inside, not-outside}
 
@@ -193,13 +193,26 @@ some-in-all (l ∷ ls) some all = omega (arith, all .0)
 pub some-periods : (p : Plan) → SoundPlan p → 1 ≤ periods p
 some-periods p sound = some-in-all (p .lengths) (sound .someIntervals) (sound .lengths)
 
--- plain or repeating, it has no more periods than any plan
-pub most-span-few : (p : Plan) → SoundPlan p → mostSpan p ≤ mostPeriods
-most-span-few p sound = few (p .repeating)
+-- plain or repeating, from any start, it has no more periods than any plan
+pub most-span-few : (p : Plan) (start : ℕ) → SoundPlan p → mostSpan p start ≤ mostPeriods
+most-span-few p start sound = few (p .repeating)
   where
-    few : (repeating : Bool) → spanLimit repeating (periods p) ≤ mostPeriods
+    few : (repeating : Bool) → spanLimit repeating (periods p - start) ≤ mostPeriods
     few true = le-refl mostPeriods
-    few false = sound .total
+    few false = omega (arith, sound .total)
+
+-- a start that is not refused is below T
+pub sound-start : (p : Plan) (start : ℕ) → startRefusal p start ≡ 0 → start < periods p
+sound-start p start e = ltb-true start (periods p) (not-false _ (not-broken (not (ltb start (periods p))) 13 e))
+
+-- a sound plan, and a start in it
+pub record SoundFrom (p : Plan) (start : ℕ) : Type 0 where
+  pub plan : SoundPlan p
+  pub below : start < periods p
+
+-- a start below T is not refused
+pub start-sound : (p : Plan) (start : ℕ) → start < periods p → startRefusal p start ≡ 0
+start-sound p start below = not-refused 14 (ap not (lt-ltb start (periods p) below))
 
 -- what is asked of the core under analysis; it may be parked in any interval
 pub record SoundCore (p : Plan) (core : ℕ) : Type 0 where
@@ -283,26 +296,30 @@ pub core-has : (P : ℕ → Type 0) (p : Plan) (core : ℕ) → P 0 → P 6 → 
 unfolding coreRefusal
 core-has P p core = rule-has P (outside 1 (p .cores) core) 6
 
--- what holds of 0 to 6 and 8 to 11 holds of what a span question is judged with
+-- what holds of every number but 7 and 12 holds of what a span question is judged with
 pub span-has : (P : ℕ → Type 0) (p : Plan) (w : Workload) (room : ℕ)
-    → ((n : ℕ) → n ≤ 11 → (n ≡ 7 → ⊥) → P n)
+    → ((n : ℕ) → (n ≡ 7 → ⊥) → (n ≡ 12 → ⊥) → P n)
     → P (spanRefusal p w room)
 unfolding spanRefusal
 span-has P p w room each =
     let eight = outside 1 mostWork (w .computing) in
     let nine = outside 0 mostWork (w .requests) in
-    let ten = outside 1 (mostSpan p) (w .horizon) in
+    let fourteen = not (ltb (w .start) (periods p)) in
+    let ten = outside 1 (mostSpan p (w .start)) (w .horizon) in
     let eleven = ltb room (intervals p) in
-    let fifth = refusedIf eleven 11 in
-    let fourth = refusedIf ten 10 before fifth in
+    let sixth = refusedIf eleven 11 in
+    let fifth = refusedIf ten 10 before sixth in
+    let fourth = refusedIf fourteen 14 before fifth in
     let third = refusedIf nine 9 before fourth in
     let second = refusedIf eight 8 before third in
     let first = coreRefusal p (w .core) before second in
-    let one : (n : ℕ) → n ≤ 11 → eqb n 7 ≡ false → P n = λ n le other. each n le (eqb-false n 7 other) in
-    let none = one 0 zero-le refl in
-    let low : (n : ℕ) → n ≤ 5 → P n = λ n le. each n (omega (arith, le)) (λ seven. lt-irrefl n (omega (arith, le, seven))) in
+    let one : (n : ℕ) → eqb n 7 ≡ false → eqb n 12 ≡ false → P n = λ n seven twelve. each n (eqb-false n 7 seven) (eqb-false n 12 twelve) in
+    let none = one 0 refl refl in
+    let low : (n : ℕ) → n ≤ 5 → P n =
+    λ n le. each n (λ seven. lt-irrefl n (omega (arith, le, seven))) (λ twelve. lt-irrefl n (omega (arith, le, twelve))) in
     first-has P (planRefusal p) first (plan-has P p low)
-    (first-has P (coreRefusal p (w .core)) second (core-has P p (w .core) none (one 6 (omega arith) refl))
-    (first-has P (refusedIf eight 8) third (rule-has P eight 8 none (one 8 (omega arith) refl))
-    (first-has P (refusedIf nine 9) fourth (rule-has P nine 9 none (one 9 (omega arith) refl))
-    (first-has P (refusedIf ten 10) fifth (rule-has P ten 10 none (one 10 (omega arith) refl)) (rule-has P eleven 11 none (one 11 (omega arith) refl))))))
+    (first-has P (coreRefusal p (w .core)) second (core-has P p (w .core) none (one 6 refl refl))
+    (first-has P (refusedIf eight 8) third (rule-has P eight 8 none (one 8 refl refl))
+    (first-has P (refusedIf nine 9) fourth (rule-has P nine 9 none (one 9 refl refl))
+    (first-has P (refusedIf fourteen 14) fifth (rule-has P fourteen 14 none (one 14 refl refl))
+    (first-has P (refusedIf ten 10) sixth (rule-has P ten 10 none (one 10 refl refl)) (rule-has P eleven 11 none (one 11 refl refl)))))))

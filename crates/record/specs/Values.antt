@@ -19,9 +19,10 @@ pub record HeadRead (s : List ℕ) (h : Head) : Type 0 where
 abbrev pub ListedWithin : List ℕ → ℕ → Type 0
 ListedWithin s at = at + 8 + 2 * ones (byteAt s (at + 4)) ≤ length s
 
--- the workload of the workload record at an offset
+-- the workload of the workload record at an offset, which has no start
 pub record WorkloadRead (s : List ℕ) (at : ℕ) (w : Workload) : Type 0 where
   pub core : w .core ≡ byteAt s (at + 4)
   pub computing : w .computing .0 ≡ fourAt s (at + 6)
   pub requests : w .requests .0 ≡ fourAt s (at + 10)
   pub horizon : w .horizon .0 ≡ twoAt s (at + 14)
+  pub start : w .start .0 ≡ 0

@@ -32,5 +32,6 @@ pub fn workload_in(
         computing: Slots(computing[i]),
         requests: Requests(requests[i]),
         horizon: Periods(horizons[i]),
+        start: Periods(0),
     }
 }

@@ -90,7 +90,7 @@ pub fn budget_at(file: &[u8], at: usize, core: u8) -> u16
     }
 }
 
-// The workload of the workload record at an offset.
+// The workload of the workload record at an offset; a file has no start, so it starts at 0.
 pub fn workload_at(file: &[u8], at: usize) -> Workload
     requires { ⌜ at + 16 ≤ length (now file) ⌝ }
     ensures { λ r. ⌜ WorkloadRead (now (file .entry)) at r ⌝ }
@@ -100,5 +100,6 @@ pub fn workload_at(file: &[u8], at: usize) -> Workload
         computing: Slots(four_at(file, at + 6)),
         requests: Requests(four_at(file, at + 10)),
         horizon: Periods(two_at(file, at + 14)),
+        start: Periods(0),
     }
 }

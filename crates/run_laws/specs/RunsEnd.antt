@@ -9,19 +9,20 @@ use lib.ListN.{length, getD, take, length-take}
 use Rattle.meaning.specs.Fraction.{Fraction, Proper, whole, _≤ᶠ_, _+ᶠ_}
 use Rattle.meaning.specs.Plan.{Plan, Workload, sumOf, mostSpan, rows, budgetOf, intervalAt, inForce}
 use Rattle.meaning.specs.Curve.{limit, raw, intervalStall}
-use Rattle.meaning.specs.Placement.{Part, sharesAt, PartsOf, Fitting, total, GreatestStall}
+use Rattle.meaning.specs.Placement.{Part, sharesFrom, PartsOf, Fitting, total, GreatestStall}
 use Rattle.meaning.specs.Span.{work, StallAt, Holds}
 use Rattle.meaning.specs.Run.{Period, Allowed, LawfulFrom, computed, requested, Lawful, Full, EndsWithin}
 use Rattle.meaning.specs.Promises.{SpanFigures, SpanAnswered}
 use Rattle.meaning.specs.Again.{zerosFor}
 use Rattle.number_laws.specs.Order.{le-or-lt}
 use Rattle.number_laws.specs.Fractions.{le-trans-fraction, sum-le, sum-proper}
-use Rattle.plan_laws.specs.SoundPlan.{SoundPlan, WholeRows, plan-whole}
+use Rattle.plan_laws.specs.SoundPlan.{SoundFrom, WholeRows, plan-whole}
 use Rattle.curve_laws.specs.PassedCorners.{stall-proper}
 use Rattle.curve_laws.specs.Certificate.{partStall}
 use Rattle.curve_laws.specs.StallConcave.{stall-concave}
 use Rattle.curve_laws.specs.EnvelopeLeast.{envelope-over}
-use Rattle.placement_laws.specs.Shares.{raisedAt, zeros-sum, plan-sharing}
+use Rattle.placement_laws.specs.Shares.{raisedAt, zeros-sum}
+use Rattle.placement_laws.specs.PlanShares.{plan-sharing}
 use Rattle.placement_laws.specs.StallUnique.{row-concave, parts-unique, parts-concave, parts-proper}
 use Rattle.placement_laws.specs.PartsBehind.{added}
 use Rattle.span_laws.specs.StallAtW.{stall-at-proper}
@@ -105,31 +106,32 @@ one-more perPeriod core (suc j) (w ∷ ws) (r ∷ rs) (p ∷ ps) (y ∷ ys) d su
       bound = added-second (whole (d .stall)) (partStall p y) (total ps ys) (total (later .parts) (later .placement)) (later .bound);
     }
 
--- a run of n periods as a placement: so many requests, and no less stall
-record Placed (p : Plan) (core n x s : ℕ) : Type 0 where
+-- a run of n periods from a start as a placement: so many requests, and no less stall
+record Placed (p : Plan) (core start n x s : ℕ) : Type 0 where
   parts : List Part
   placement : List ℕ
-  ofPlan : PartsOf (p .perPeriod) core (sharesAt p n) (rows p) parts
+  ofPlan : PartsOf (p .perPeriod) core (sharesFrom p start n) (rows p) parts
   fitting : Fitting parts placement
   sum : sumOf placement ≡ x
   bound : whole s ≤ᶠ total parts placement
 
-placed-same : {p : Plan} {core n m x y s t : ℕ} → n ≡ m → x ≡ y → s ≡ t → Placed p core n x s → Placed p core m y t
-placed-same {p} {core} {n} {m} {x} {y} {s} {t} periods requests stall h =
-    subst (λ (k : ℕ). Placed p core k y t) periods (subst (λ (k : ℕ). Placed p core n k t) requests (subst (λ (k : ℕ). Placed p core n x k) stall h))
+placed-same : {p : Plan} {core start n m x y s t : ℕ} → n ≡ m → x ≡ y → s ≡ t → Placed p core start n x s → Placed p core start m y t
+placed-same {p} {core} {start} {n} {m} {x} {y} {s} {t} periods requests stall h =
+    subst (λ (k : ℕ). Placed p core start k y t) periods
+    (subst (λ (k : ℕ). Placed p core start n k t) requests (subst (λ (k : ℕ). Placed p core start n x k) stall h))
 
 whole-sum : (m n : ℕ) (f : Fraction) → whole m +ᶠ whole n ≤ᶠ f → whole (m + n) ≤ᶠ f
 whole-sum m n f h = omega (arith, h)
 
-module _ (p : Plan) (core : ℕ) (sound : SoundPlan p) where
+module _ (p : Plan) (core start : ℕ) (sound : SoundFrom p start) where
   -- the empty run
-  none-placed : Placed p core 0 0 0
+  none-placed : Placed p core start 0 0 0
   none-placed =
-      let idle = added (p .perPeriod) core (p .cores) (p .lengths) (p .budgets) (plan-whole p sound) in
+      let idle = added (p .perPeriod) core (p .cores) (p .lengths) (p .budgets) (plan-whole p (sound .plan)) in
       record {
         parts = idle .parts;
         placement = zerosFor (p .lengths);
-        ofPlan = subst (λ (ws : List ℕ). PartsOf (p .perPeriod) core ws (rows p) (idle .parts)) (sym (plan-sharing p sound .none)) (idle .ofRows);
+        ofPlan = subst (λ (ws : List ℕ). PartsOf (p .perPeriod) core ws (rows p) (idle .parts)) (sym (plan-sharing p start sound .none)) (idle .ofRows);
         fitting = idle .none;
         sum = zeros-sum (length (p .lengths));
         bound = omega arith;
@@ -137,19 +139,19 @@ module _ (p : Plan) (core : ℕ) (sound : SoundPlan p) where
 
   -- one period more
   period-placed : (k x s : ℕ) (d : Period)
-      → k < mostSpan p
-      → Allowed (p .perPeriod) core (inForce p k) d
-      → Placed p core k x s
-      → Placed p core (suc k) (d .requests + x) (d .stall + s)
+      → k < mostSpan p start
+      → Allowed (p .perPeriod) core (inForce p (start + k)) d
+      → Placed p core start k x s
+      → Placed p core start (suc k) (d .requests + x) (d .stall + s)
   period-placed k x s d inside allowed h =
-      let sums = plan-whole p sound in
-      let sharing = plan-sharing p sound in
-      let met : intervalAt p k < length (rows p) = rw (sound .rowsCount) (sharing .inside k inside) in
+      let sums = plan-whole p (sound .plan) in
+      let sharing = plan-sharing p start sound in
+      let met : intervalAt p (start + k) < length (rows p) = rw (sound .plan .rowsCount) (sharing .inside k inside) in
       let more =
-      one-more (p .perPeriod) core (intervalAt p k) (sharesAt p k) (rows p) (h .parts) (h .placement) d sums (h .ofPlan) met allowed (h .fitting) in
+      one-more (p .perPeriod) core (intervalAt p (start + k)) (sharesFrom p start k) (rows p) (h .parts) (h .placement) d sums (h .ofPlan) met allowed (h .fitting) in
       let stall = whole (d .stall) in
       let before = total (h .parts) (h .placement) in
-      let concave = parts-concave (p .perPeriod) core (sharesAt p k) (rows p) (h .parts) sums (h .ofPlan) in
+      let concave = parts-concave (p .perPeriod) core (sharesFrom p start k) (rows p) (h .parts) sums (h .ofPlan) in
       record {
         parts = more .parts;
         placement = more .placement;
@@ -168,33 +170,35 @@ module _ (p : Plan) (core : ℕ) (sound : SoundPlan p) where
       }
 
   -- periods one after the other
-  periods-placed : (ds : List Period) (k x s : ℕ)
-      → k + length ds ≤ mostSpan p
-      → AllowedFrom p core k ds
-      → Placed p core k x s
-      → Placed p core (k + length ds) (requested ds + x) (stalled ds + s)
-  periods-placed [] k x s inside allowed h = placed-same (omega arith) (omega arith) (omega arith) h
-  periods-placed (d ∷ ds) k x s inside allowed h =
-      let first = period-placed k x s d (omega (arith, inside)) (allowed .0) h in
-      let later = periods-placed ds (suc k) (d .requests + x) (d .stall + s) (omega (arith, inside)) (allowed .1) first in
+  periods-placed : (ds : List Period) (k at x s : ℕ)
+      → k + length ds ≤ mostSpan p start
+      → start + k ≡ at
+      → AllowedFrom p core at ds
+      → Placed p core start k x s
+      → Placed p core start (k + length ds) (requested ds + x) (stalled ds + s)
+  periods-placed [] k at x s inside e allowed h = placed-same (omega arith) (omega arith) (omega arith) h
+  periods-placed (d ∷ ds) k at x s inside e allowed h =
+      let here = subst (λ (n : ℕ). Allowed (p .perPeriod) core (inForce p n) d) (sym e) (allowed .0) in
+      let first = period-placed k x s d (omega (arith, inside)) here h in
+      let later = periods-placed ds (suc k) (suc at) (d .requests + x) (d .stall + s) (omega (arith, inside)) (omega (arith, e)) (allowed .1) first in
       placed-same (omega arith) (omega arith) (omega arith) later
 
   -- no run stalls more in n periods than S(n)
   run-stall : (requests : ℕ) (f : Fraction) (ds : List Period)
-      → length ds ≤ mostSpan p
+      → length ds ≤ mostSpan p start
       → requested ds ≤ requests
-      → AllowedFrom p core 0 ds
-      → GreatestStall p core requests (sharesAt p (length ds)) f
+      → AllowedFrom p core start ds
+      → GreatestStall p core requests (sharesFrom p start (length ds)) f
       → whole (stalled ds) ≤ᶠ f
   run-stall requests f ds inside few allowed g =
-      let sums = plan-whole p sound in
-      let placed : Placed p core (length ds) (requested ds) (stalled ds) =
-      placed-same (omega arith) (omega arith) (omega arith) (periods-placed ds 0 0 0 (omega (arith, inside)) allowed none-placed) in
+      let sums = plan-whole p (sound .plan) in
+      let placed : Placed p core start (length ds) (requested ds) (stalled ds) =
+      placed-same (omega arith) (omega arith) (omega arith) (periods-placed ds 0 start 0 0 (omega (arith, inside)) (omega arith) allowed none-placed) in
       let parts =
-      parts-unique (p .perPeriod) core (sharesAt p (length ds)) (rows p) (placed .parts) (g .parts) sums (placed .ofPlan) (g .ofPlan) in
+      parts-unique (p .perPeriod) core (sharesFrom p start (length ds)) (rows p) (placed .parts) (g .parts) sums (placed .ofPlan) (g .ofPlan) in
       let fits = subst (λ (ps : List Part). Fitting ps (placed .placement)) parts (placed .fitting) in
       let bound = subst (λ (ps : List Part). whole (stalled ds) ≤ᶠ total ps (placed .placement)) parts (placed .bound) in
-      let concave = parts-concave (p .perPeriod) core (sharesAt p (length ds)) (rows p) (g .parts) sums (g .ofPlan) in
+      let concave = parts-concave (p .perPeriod) core (sharesFrom p start (length ds)) (rows p) (g .parts) sums (g .ofPlan) in
       subst (λ (k : Fraction). whole (stalled ds) ≤ᶠ k) (sym (g .value))
       (le-trans-fraction (whole (stalled ds)) (total (g .parts) (placed .placement)) (total (g .parts) (g .placement))
       (parts-proper (g .parts) (placed .placement) concave)
@@ -219,19 +223,19 @@ done-core n q m e x s f proper le enough slots =
     le-of-mul-le-mul-right {k = f .den} (omega (arith, le, enough, ap (λ (k : ℕ). k * f .den) slots)) proper
 
 run-done : (p : Plan) (w : Workload) (n : ℕ) (ds : List Period)
-    → SoundPlan p
+    → SoundFrom p (w .start)
     → Holds p w n
     → length ds ≡ n
-    → length ds ≤ mostSpan p
+    → length ds ≤ mostSpan p (w .start)
     → requested ds ≤ w .requests
-    → AllowedFrom p (w .core) 0 ds
+    → AllowedFrom p (w .core) (w .start) ds
     → Full (p .perPeriod) ds
     → work w ≤ computed ds + requested ds
 run-done p w n ds sound holds count inside few allowed full =
     let greatest = subst (λ (m : ℕ). StallAt p w m (holds .stall)) (sym count) (holds .greatest) in
     done-core (work w) (p .perPeriod) n (computed ds) (requested ds) (stalled ds) (holds .stall)
     (stall-at-proper p w sound n (holds .stall) (holds .greatest))
-    (run-stall p (w .core) sound (w .requests) (holds .stall) ds inside few allowed greatest)
+    (run-stall p (w .core) (w .start) sound (w .requests) (holds .stall) ds inside few allowed greatest)
     (holds .enough)
     (subst (λ (m : ℕ). computed ds + requested ds + stalled ds ≡ m * p .perPeriod) count (full-slots (p .perPeriod) ds full))
 
@@ -271,7 +275,7 @@ before p core (suc n) k (d ∷ e ∷ ds) h long =
 
 -- every lawful run with no more work ends within a number of periods that holds the work
 pub run-ends : (p : Plan) (w : Workload) (n : ℕ) (run : List Period)
-    → SoundPlan p
+    → SoundFrom p (w .start)
     → Holds p w n
     → Lawful p w run
     → EndsWithin p w run n
@@ -281,16 +285,16 @@ run-ends p w n run sound holds lawful =
           ⊎-elim
           (λ le. le)
           (λ long.
-          let first = before p (w .core) n 0 run (lawful .periodByPeriod) long in
+          let first = before p (w .core) n (w .start) run (lawful .periodByPeriod) long in
           let count : length (take n run) ≡ n = length-take n run ∙ min-eq-left (le-of-lt long) in
-          let inside : length (take n run) ≤ mostSpan p = omega (arith, count, long, lawful .within) in
+          let inside : length (take n run) ≤ mostSpan p (w .start) = omega (arith, count, long, lawful .within) in
           let few : requested (take n run) ≤ w .requests = le-trans (first .requests) (lawful .requests) in
           let done = run-done p w n (take n run) sound holds count inside few (first .allowed) (first .full) in
           absurd (lt-irrefl (work w) (omega (arith, done, first .less, lawful .computing, lawful .requests))))
           (le-or-lt (length run) n);
       done =
           λ count full.
-          let allowed = lawful-allowed p (w .core) 0 run (lawful .periodByPeriod) in
+          let allowed = lawful-allowed p (w .core) (w .start) run (lawful .periodByPeriod) in
           let done = run-done p w n run sound holds count (lawful .within) (lawful .requests) allowed full in
           (omega (arith, done, lawful .computing, lawful .requests), omega (arith, done, lawful .computing, lawful .requests));
     }
@@ -303,4 +307,4 @@ pub answer-ends : (p : Plan) (w : Workload) (room : ℕ) (a : SpanFigures) (xs :
     → EndsWithin p w run (a .span)
 answer-ends p w room a xs run h answered lawful =
     let both = answer-given p w room a xs h answered in
-    run-ends p w (a .span) run (both .0 .plan) (both .1 .isSpan .holds) lawful
+    run-ends p w (a .span) run (both .0 .from) (both .1 .isSpan .holds) lawful

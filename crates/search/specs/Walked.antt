@@ -1,5 +1,5 @@
 -- What a walk by the order of the segments gives at W: the stall, the placement, and the term after W.
-use mathlib.Core.Path.{_≡_, ap, _∙_}
+use mathlib.Core.Path.{_≡_, ap, _∙_, fun-ext}
 use mathlib.Core.List.{List, _++_}
 use Prim.Native.Nat.{ℕ, _+_, _≤_}
 use lib.ListN.{length, drop}
@@ -12,7 +12,7 @@ use Rattle.placement_laws.specs.FillingAnswers.{filledStall}
 use Rattle.span_laws.specs.TermsInSlots.{holding}
 use Rattle.segments.specs.Packed.{between, Runs}
 use Rattle.stall.specs.Walks.{numberAt}
-use Rattle.shares.specs.Shares.{inArray, share-in}
+use Rattle.shares.specs.Shares.{Reads}
 
 -- the stall with these bases and shares in whole slots, as a walk by the order finds it
 unfoldable pub stallWith : List ℕ → List ℕ → List Pick → ℕ → ℕ
@@ -32,9 +32,9 @@ abbrev pub termAfter : ℕ → List ℕ → (ℕ → List ℕ) → List Pick →
 termAfter perPeriod bases share o w n = holding perPeriod (work w + stallWith bases (share n) o (w .requests))
 
 -- with the shares in an array the walk and the filling are the same
-module _ (bases ws : List ℕ) (o : List Pick) (requests : ℕ) (array : List ℕ) (made : array ≡ inArray ws) where
+module _ (bases ws : List ℕ) (o : List Pick) (requests : ℕ) (array : List ℕ) (made : Reads array ws) where
   same-shares : numberAt array ≡ numberAt ws
-  same-shares = ap numberAt made ∙ share-in ws
+  same-shares = fun-ext made
 
   pub stall-in-array : stallWith bases array o requests ≡ stallWith bases ws o requests
   unfolding stallWith

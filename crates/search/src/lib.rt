@@ -8,9 +8,11 @@ ghost use Rattle.span_laws.specs.TermsInSlots.{holding};
 ghost use Rattle.units.specs.Units.{periodsOf};
 ghost use Rattle.units.specs.Given.{workloadOf};
 ghost use Rattle.segments.specs.Packed.{between};
-ghost use Rattle.shares.specs.Shares.{CycleOf, sharesGiven};
+ghost use Rattle.shares.specs.Part.{Begins};
+ghost use Rattle.shares.specs.Shares.{sharesGiven};
 ghost use Rattle.search.specs.Walked.{Walkable, stallWith};
 ghost use Rattle.search.specs.Searched.{TermsClimb, Searched};
+use shares::Beginning;
 use units::Head;
 use units::MadePeriods;
 use units::MadeSlots;
@@ -55,18 +57,18 @@ fn next_term(
     term_for(per_period, workload, stall)
 }
 
-// The search over the terms: it ends at the first term equal to the one before it, or past the horizon.
+// The search over the terms from a beginning in the plan: it ends at the first term equal to the one before it, or past the horizon.
 pub fn search(
     picks: &[u64; 512],
     count: usize,
     bases: &[u16],
     head: Head,
-    cycle: Periods,
+    begin: Beginning,
     lengths: &[u16],
     workload: Workload,
 ) -> Ending
-    requires { ⌜ (1 ≤ head .«per_period» .0) × (head .«per_period» .0 ≤ mostPerPeriod) × CycleOf (cycle .0) (now lengths) × (length (now lengths) ≤ mostIntervals) × Walkable (now picks) count (now bases) × TermsClimb (head .«per_period» .0) (now bases) (sharesGiven (now lengths)) (between 0 count (now picks)) (workloadOf workload) ⌝ }
-    ensures { λ r. ⌜ Searched (head .«per_period» .0) (now (bases .entry)) (sharesGiven (now (lengths .entry))) (between 0 count (now (picks .entry))) (workloadOf workload) r ⌝ }
+    requires { ⌜ (1 ≤ head .«per_period» .0) × (head .«per_period» .0 ≤ mostPerPeriod) × Begins (now lengths) begin × (length (now lengths) ≤ mostIntervals) × Walkable (now picks) count (now bases) × TermsClimb (head .«per_period» .0) (now bases) (sharesGiven (begin .repeating) (now lengths) (begin .start .0)) (between 0 count (now picks)) (workloadOf workload) ⌝ }
+    ensures { λ r. ⌜ Searched (head .«per_period» .0) (now (bases .entry)) (sharesGiven (begin .repeating) (now (lengths .entry)) (begin .start .0)) (between 0 count (now (picks .entry))) (workloadOf workload) r ⌝ }
 {
     let made = term_for(head.per_period, workload, Slots(0));
     let MadePeriods::Within(first) = made else {
@@ -78,7 +80,7 @@ pub fn search(
         if workload.horizon.0 < term.0 {
             break Ending::NoSpan;
         }
-        let shares = shares::shares_of(cycle, lengths, term);
+        let shares = shares::shares_of(begin, lengths, term);
         let MadePeriods::Within(next) = next_term(
             picks,
             count,

@@ -1,18 +1,19 @@
--- The corners and the bases of all intervals of a plan, found one interval after another.
+-- The corners and the bases of the intervals of a part of a plan, found one interval after another.
 use mathlib.Core.Path.{_≡_, sym, ap, _∙_, subst}
 use mathlib.Core.Logic.{⊎-elim}
 use mathlib.Core.List.{List, []}
-use Prim.Native.Nat.{ℕ, suc, _+_, _-_, _≤_, _<_}
+use Prim.Native.Nat.{ℕ, suc, _+_, _-_, _≤_, _<_, zero-le}
 use native.Mathlib.Nat.{lt-irrefl, eq-or-lt-of-le}
 use native.Mathlib.Omega.{arith}
-use lib.ListN.{length, getD, set, replicate, length-set, List·getD-map}
+use lib.ListN.{length, getD, set, replicate, length-set, length-replicate, getD-replicate, List·getD-map}
 use lib.Seq.{getD-set-same, getD-set-other}
 use Rattle.meaning.specs.Plan.{Plan, intervals, rows}
-use Rattle.meaning.specs.Curve.{Corner, Curve, EnvelopeOf, rates, stalls, count, blockOf}
+use Rattle.meaning.specs.Curve.{Corner, Curve, EnvelopeOf, Concave, rates, stalls, count, blockOf}
+use Rattle.number_laws.specs.Order.{le-or-lt}
 use Rattle.number_laws.specs.Lists.{listFrom, all-at}
 use Rattle.plan_laws.specs.SoundPlan.{SoundPlan, SoundCore, WholeRow}
 use Rattle.placement_laws.specs.StallUnique.{row-concave}
-use Rattle.placement_laws.specs.PlacementExists.{CurvesOf, baseOf}
+use Rattle.placement_laws.specs.PlacementExists.{none-concave, baseOf}
 use Rattle.curve.specs.Rows.{Interval}
 use Rattle.curve.specs.Figures.{InBlock, HoldsEnvelope}
 use Rattle.curve.specs.Found.{holds-most}
@@ -55,7 +56,7 @@ pub record FirstHold {A : Type 0} (P : ℕ → A → Type 0) (none : A) (n : ℕ
   pub each : (k : ℕ) → k < n → P k (getD array k none)
 
 -- the next one is put in its place
-pub hold-more : {A : Type 0} (P : ℕ → A → Type 0) (none : A) (n : ℕ) (array : List A) (a : A)
+hold-more : {A : Type 0} (P : ℕ → A → Type 0) (none : A) (n : ℕ) (array : List A) (a : A)
     → n < 64
     → P n a
     → FirstHold P none n array
@@ -72,13 +73,76 @@ hold-more {A} P none n array a room here so-far =
           (eq-or-lt-of-le up);
     }
 
--- the blocks of the first n intervals of a plan hold their corners
-abbrev pub Cornered : Plan → ℕ → ℕ → List Block → Type 0
-Cornered p core = FirstHold (λ k b. HoldsEnvelope (p .perPeriod) core (getD (rows p) k []) b) noBlock
+-- the block of interval k, where a part of a plan has the intervals from one on: it holds the corners of the interval, and before the part none
+pub record CorneredAt (p : Plan) (core first k : ℕ) (b : Block) : Type 0 where
+  pub held : first ≤ k → HoldsEnvelope (p .perPeriod) core (getD (rows p) (k - first) []) b
+  pub idle : k < first → Concave (curveOf b) × (b .count ≤ 9)
 
--- the bases of the first n intervals stand in their places
-abbrev pub Based : Plan → ℕ → ℕ → List ℕ → Type 0
-Based p core = FirstHold (λ k n. n ≡ baseOf p core k) 0
+-- the blocks of the first n intervals of a part, and of those before it
+abbrev pub Cornered : Plan → ℕ → ℕ → ℕ → List Block → Type 0
+Cornered p core first n = FirstHold (CorneredAt p core first) noBlock (first + n)
+
+-- the bases of the first n intervals of a part stand in their places
+abbrev pub Based : Plan → ℕ → ℕ → ℕ → List ℕ → Type 0
+Based p core first n = FirstHold (λ k base. first ≤ k → base ≡ baseOf p core (k - first)) 0 (first + n)
+
+-- the block of no corners
+abbrev emptyBlock : Block
+emptyBlock = record { rates = replicate 9 0; stalls = replicate 9 0; count = 0 }
+
+empty-concave : Concave (curveOf emptyBlock)
+unfolding listFrom
+empty-concave = none-concave
+
+-- before the first interval is looked at, blocks of no corners and bases of 0 will do
+pub none-cornered : (p : Plan) (core first : ℕ) → first ≤ 64 → Cornered p core first 0 (replicate 64 emptyBlock)
+none-cornered p core first few =
+    record {
+      long = length-replicate {A = Block} 64 emptyBlock;
+      each =
+          λ k lt.
+          let before : k < first = omega (arith, lt) in
+          subst (CorneredAt p core first k) (sym (getD-replicate 64 k emptyBlock noBlock (omega (arith, before, few))))
+          (record { held = λ from. absurd (lt-irrefl k (omega (arith, from, before))); idle = λ h. (empty-concave, zero-le) });
+    }
+
+pub none-based : (p : Plan) (core first : ℕ) → Based p core first 0 (replicate 64 0)
+none-based p core first =
+    record {
+      long = length-replicate {A = ℕ} 64 0;
+      each = λ k lt from. absurd (lt-irrefl k (omega (arith, lt, from)));
+    }
+
+-- interval i of a part, by its number in the plan
+at-place : (first i : ℕ) → first + i - first ≡ i
+at-place first i = omega arith
+
+-- the next interval's block is put in its place
+pub cornered-more : (p : Plan) (core first i : ℕ) (blocks : List Block) (b : Block)
+    → first + i < 64
+    → HoldsEnvelope (p .perPeriod) core (getD (rows p) i []) b
+    → Cornered p core first i blocks
+    → Cornered p core first (i + 1) (set blocks (first + i) b)
+cornered-more p core first i blocks b few held so-far =
+    let next : first + i + 1 ≡ first + (i + 1) = omega arith in
+    subst (λ (n : ℕ). FirstHold (CorneredAt p core first) noBlock n (set blocks (first + i) b)) next
+    (hold-more (CorneredAt p core first) noBlock (first + i) blocks b few
+    (record {
+      held = λ from. rw (at-place first i) held;
+      idle = λ before. absurd (lt-irrefl first (omega (arith, before)));
+    })
+    so-far)
+
+-- and its base
+pub based-more : (p : Plan) (core first i : ℕ) (bases : List ℕ) (base : ℕ)
+    → first + i < 64
+    → base ≡ baseOf p core i
+    → Based p core first i bases
+    → Based p core first (i + 1) (set bases (first + i) base)
+based-more p core first i bases base few is so-far =
+    let next : first + i + 1 ≡ first + (i + 1) = omega arith in
+    subst (λ (n : ℕ). FirstHold (λ k m. first ≤ k → m ≡ baseOf p core (k - first)) 0 n (set bases (first + i) base)) next
+    (hold-more (λ k m. first ≤ k → m ≡ baseOf p core (k - first)) 0 (first + i) bases base few (λ from. rw (at-place first i) is) so-far)
 
 module _ (p : Plan) (core : ℕ) (sound : SoundPlan p) (analysed : SoundCore p core) where
   -- an interval of a sound plan has what its corners are found from
@@ -93,17 +157,30 @@ module _ (p : Plan) (core : ℕ) (sound : SoundPlan p) (analysed : SoundCore p c
         cores = omega (arith, whole .cores, sound .fewCores);
       }
 
-  module _ (blocks : List Block) (all : Cornered p core (intervals p) blocks) where
-    -- the blocks are read as the curves of the plan
-    pub cornered-curves : CurvesOf p core (curveAt blocks)
-    cornered-curves i h =
-        let held = all .each i h in
-        subst (EnvelopeOf (p .perPeriod) core (getD (rows p) i [])) (sym (block-curve (held .0) (getD blocks i noBlock) (held .2))) (held .1)
+  module _ (first : ℕ) (blocks : List Block) (all : Cornered p core first (intervals p) blocks) where
+    -- the blocks are read as the curves of the part
+    pub cornered-curves : (i : ℕ)
+        → first ≤ i
+        → i < first + intervals p
+        → EnvelopeOf (p .perPeriod) core (getD (rows p) (i - first) []) (curveAt blocks i)
+    cornered-curves i from h =
+        let held = all .each i h .held from in
+        subst (EnvelopeOf (p .perPeriod) core (getD (rows p) (i - first) [])) (sym (block-curve (held .0) (getD blocks i noBlock) (held .2)))
+        (held .1)
+
+    -- those before the part have a corner and no segment
+    pub cornered-idle : (i : ℕ) → i < first → Concave (curveAt blocks i)
+    cornered-idle i before = all .each i (omega (arith, before)) .idle before .0
 
     -- and they are concave curves of at most nine corners
-    pub cornered-concave : Curves (intervals p) blocks
+    pub cornered-concave : Curves (first + intervals p) blocks
     cornered-concave i h =
-        let interval = sound-interval i h in (
-          row-concave (p .perPeriod) core (getD (rows p) i []) (curveAt blocks i) (interval .whole .sums) (cornered-curves i h),
-          holds-most (p .perPeriod) core (getD (rows p) i []) (getD blocks i noBlock) interval (all .each i h),
-        )
+        ⊎-elim
+        (λ from.
+        let interval = sound-interval (i - first) (omega (arith, h, from)) in
+        let row = getD (rows p) (i - first) [] in (
+          row-concave (p .perPeriod) core row (curveAt blocks i) (interval .whole .sums) (cornered-curves i from h),
+          holds-most (p .perPeriod) core row (getD blocks i noBlock) interval (all .each i h .held from),
+        ))
+        (λ before. all .each i h .idle before)
+        (le-or-lt first i)

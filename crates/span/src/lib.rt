@@ -1,16 +1,19 @@
 // The two questions of a whole plan: placement and stall at a given W, and span.
-ghost use Prim.Native.Nat.{_≤_};
+ghost use mathlib.Core.Path.{_≡_};
+ghost use Prim.Native.Nat.{_+_, _≤_};
 ghost use lib.ListN.{length, take};
 ghost use Rattle.meaning.specs.Plan.{mostIntervals, mostWork};
 ghost use Rattle.meaning.specs.Promises.{PlacementPromise, SpanPromise};
 ghost use Rattle.plan_laws.specs.SoundPlan.{SoundPlan, SoundCore};
 ghost use Rattle.units.specs.Given.{planOf, workloadOf};
 ghost use Rattle.segments.specs.Packed.{between, Inside};
+ghost use Rattle.shares.specs.Part.{Begins};
 ghost use Rattle.search.specs.Walked.{stallWith, Gives, Walkable};
 ghost use Rattle.span.specs.Figures.{placementFigures, spanFigures};
-ghost use Rattle.span.specs.Prepared.{PreparedFor, ParkedUntil, LastParked};
+ghost use Rattle.span.specs.Prepared.{PreparedPart, PreparedFor, ParkedUntil, LastParked, firstMet};
 use judge::Judgement;
 use search::Ending;
+use shares::Beginning;
 use units::Block;
 use units::Head;
 use units::MadeSlots;
@@ -36,8 +39,9 @@ pub enum SpanAnswer {
     Refused(Refusal),
 }
 
-// What is found once for a plan and a core: the segments of all intervals in the order of filling, in the first `count` places, and the
-// base of each interval, its stall at 0 requests: Q where the core is parked, else 0. It is parked in none past the first `parked_until`.
+// What is found once for a plan, a core and a beginning: the segments of all intervals that can be met, in the order of filling, in the
+// first `count` places, and the base of each of them, its stall at 0 requests: Q where the core is parked, else 0. Bases are 0 past the
+// first `parked_until`.
 struct Prepared {
     picks: [u64; 512],
     count: usize,
@@ -60,22 +64,23 @@ fn parked_until(bases: &[u16; 64], intervals: usize) -> usize
     last
 }
 
-// A sound plan prepared for a core; the corners of each interval are found once.
-fn prepare(head: Head, lengths: &[u16], budgets: &[u16], core: u8) -> Prepared
-    requires { ⌜ SoundPlan (planOf head (now lengths) (now budgets)) × SoundCore (planOf head (now lengths) (now budgets)) core ⌝ }
-    ensures { λ r. ⌜ PreparedFor (planOf head (now (lengths .entry)) (now (budgets .entry))) core (r .picks) (r .count) (take (r .«parked_until») (r .bases)) × (r .«parked_until» ≤ length (r .bases)) × LastParked (r .bases) (r .«parked_until») ⌝ }
+// A part of a sound plan prepared for a core: `lengths` and `budgets` are those of its intervals, the first of which has number `first` in the
+// plan. The corners of each interval are found once; those before the part have none.
+fn prepare(head: Head, lengths: &[u16], budgets: &[u16], core: u8, first: usize) -> Prepared
+    requires { ⌜ SoundPlan (planOf head (now lengths) (now budgets)) × SoundCore (planOf head (now lengths) (now budgets)) core × (first + length (now lengths) ≤ mostIntervals) ⌝ }
+    ensures { λ r. ⌜ PreparedPart (planOf head (now (lengths .entry)) (now (budgets .entry))) core first (r .picks) (r .count) (take (r .«parked_until») (r .bases)) × (r .«parked_until» ≤ length (r .bases)) × LastParked (r .bases) (r .«parked_until») ⌝ }
 {
     let m = head.cores as usize;
-    let intervals = lengths.len();
+    let intervals = first + lengths.len();
     let mut blocks = [Block::EMPTY; 64];
     let mut bases = [0u16; 64];
     let mut i = 0;
-    while i < intervals {
-        let start = i * m;
-        let end = start + m;
-        let block = curve::interval_corners(head.per_period, &budgets[start..end], core);
-        bases[i] = block.stalls[0];
-        blocks[i] = block;
+    while i < lengths.len() {
+        let from = i * m;
+        let to = from + m;
+        let block = curve::interval_corners(head.per_period, &budgets[from..to], core);
+        bases[first + i] = block.stalls[0];
+        blocks[first + i] = block;
         i += 1;
     }
     let ordered = order::order(blocks, intervals);
@@ -88,6 +93,33 @@ fn prepare(head: Head, lengths: &[u16], budgets: &[u16], core: u8) -> Prepared
         bases,
         parked_until,
     }
+}
+
+// The first interval that can be met: that of the start, and the plan's first where it repeats, since its later cycles are whole.
+fn first_met(repeating: bool, interval: usize) -> usize
+    ensures { λ r. ⌜ r ≡ firstMet repeating interval ⌝ }
+{
+    match repeating {
+        true => 0,
+        false => interval,
+    }
+}
+
+// A sound plan prepared for a core and a beginning: the analysis goes on with the part of the plan from the first interval that can
+// be met.
+fn prepare_from(
+    head: Head,
+    lengths: &[u16],
+    budgets: &[u16],
+    core: u8,
+    begin: Beginning,
+) -> Prepared
+    requires { ⌜ SoundPlan (planOf head (now lengths) (now budgets)) × SoundCore (planOf head (now lengths) (now budgets)) core × Begins (now lengths) begin × (begin .repeating ≡ head .repeating) ⌝ }
+    ensures { λ r. ⌜ PreparedFor (planOf head (now (lengths .entry)) (now (budgets .entry))) core (begin .start .0) (r .picks) (r .count) (take (r .«parked_until») (r .bases)) × (r .«parked_until» ≤ length (r .bases)) ⌝ }
+{
+    let first = first_met(begin.repeating, begin.interval);
+    let budget = first * head.cores as usize;
+    prepare(head, &lengths[first..], &budgets[budget..], core, first)
 }
 
 // The answered placement of so many intervals with these bases and shares, from the front of the place, and its stall. By what is required
@@ -111,29 +143,32 @@ fn answer_with(
     }
 }
 
-// Placement and stall at a given W. A plan's head, the periods of each of its intervals, and its budgets, interval by interval with core 1
-// first; the core under analysis, counted from 1; its requests; W, which may pass the plan's periods where the head is marked as repeating.
-// The place is lent for the call: the answered placement, a number for each interval over all cycles, is written from its front and the
-// rest is kept; on a refusal nothing is written.
+// Placement and stall at a given W from a start. A plan's head, the periods of each of its intervals, and its budgets, interval by interval
+// with core 1 first; the core under analysis, counted from 1; its requests; the start, in periods after the plan's beginning; W, counted
+// from the start, which may pass the plan's periods where the head is marked as repeating. The place is lent for the call: the answered
+// placement, a number for each interval over all cycles, 0 for those before the start that are not met again, is written from its front
+// and the rest is kept; on a refusal nothing is written.
 pub fn placement(
     head: Head,
     lengths: &[u16],
     budgets: &[u16],
     core: u8,
     requests: Requests,
+    start: Periods,
     periods: Periods,
     place: &mut [u32],
 ) -> PlacementAnswer
-    ensures { λ r. ⌜ PlacementPromise (planOf head (now (lengths .entry)) (now (budgets .entry))) core (requests .0) (periods .0) (now (place .entry)) (placementFigures r) (now (place .exit)) ⌝ }
+    ensures { λ r. ⌜ PlacementPromise (planOf head (now (lengths .entry)) (now (budgets .entry))) core (requests .0) (start .0) (periods .0) (now (place .entry)) (placementFigures r) (now (place .exit)) ⌝ }
 {
     let room = place.len();
-    match workload::judged_placement(head, lengths, budgets, core, requests, periods, room) {
+    match workload::judged_placement(head, lengths, budgets, core, requests, start, periods, room) {
         Judgement::Refused(why) => PlacementAnswer::Refused(why),
         Judgement::Sound(cycle) => {
-            let prepared = prepare(head, lengths, budgets, core);
+            let begin = shares::begin_at(head.repeating, cycle, lengths, start);
+            let prepared = prepare_from(head, lengths, budgets, core, begin);
             let count = prepared.count;
             let bases = prepared.bases;
-            let shares = shares::shares_of(cycle, lengths, periods);
+            let shares = shares::shares_of(begin, lengths, periods);
             let stall = answer_with(
                 &prepared.picks,
                 count,
@@ -149,9 +184,10 @@ pub fn placement(
 }
 
 // Span. A plan's head, the periods of each of its intervals, and its budgets, interval by interval with core 1 first; the workload, its
-// core counted from 1, its horizon past the plan's periods only where the head is marked as repeating. The place is lent for the call: the
-// answered placement at the span, a number for each interval over all cycles, is written from its front and the rest is kept; on a refusal
-// nothing is written.
+// core counted from 1, its start in periods after the plan's beginning, its horizon counted from there, past the plan's end only where the
+// head is marked as repeating; the span counts from the start too. The place is lent for the call: the answered placement at the span, a
+// number for each interval over all cycles, 0 for those before the start that are not met again, is written from its front and the rest is
+// kept; on a refusal nothing is written.
 pub fn span(
     head: Head,
     lengths: &[u16],
@@ -164,15 +200,16 @@ pub fn span(
     match workload::judged_span(head, lengths, budgets, workload, place.len()) {
         Judgement::Refused(why) => SpanAnswer::Refused(why),
         Judgement::Sound(cycle) => {
-            let prepared = prepare(head, lengths, budgets, workload.core);
+            let begin = shares::begin_at(head.repeating, cycle, lengths, workload.start);
+            let prepared = prepare_from(head, lengths, budgets, workload.core, begin);
             let count = prepared.count;
             let picks = &prepared.picks;
             let all = prepared.bases;
             let bases = &all[0..prepared.parked_until];
-            match search::search(picks, count, bases, head, cycle, lengths, workload) {
+            match search::search(picks, count, bases, head, begin, lengths, workload) {
                 Ending::NoSpan => SpanAnswer::Refused(Refusal::NoSpan),
                 Ending::Span { span, rounds } => {
-                    let shares = shares::shares_of(cycle, lengths, span);
+                    let shares = shares::shares_of(begin, lengths, span);
                     let requests = workload.requests;
                     let stall = answer_with(
                         picks,

@@ -8,10 +8,10 @@ use native.Mathlib.Omega.{arith}
 use Rattle.meaning.specs.Fraction.{Fraction, Proper, whole, _≤ᶠ_, _=ᶠ_, _+ᶠ_}
 use Rattle.meaning.specs.Plan.{Plan, Workload, sumOf, mostSpan, rows, budgetOf, All}
 use Rattle.meaning.specs.Curve.{Corner, Curve, lastOf, limit, OnRaw, Rising, raw, EnvelopeOf, intervalStall, stallFrom, Climbing, Concave}
-use Rattle.meaning.specs.Placement.{Part, sharesAt, PartsOf, Fitting, total, Greatest, Answered}
+use Rattle.meaning.specs.Placement.{Part, sharesFrom, PartsOf, Fitting, total, Greatest, Answered}
 use Rattle.meaning.specs.Span.{PlacedAt, work, Holds}
 use Rattle.number_laws.specs.Fractions.{le-trans-fraction, sum-le}
-use Rattle.plan_laws.specs.SoundPlan.{SoundPlan, WholeRows, plan-whole}
+use Rattle.plan_laws.specs.SoundPlan.{SoundFrom, WholeRows, plan-whole}
 use Rattle.curve_laws.specs.RawStall.{raw-full, raw-le}
 use Rattle.curve_laws.specs.Price.{Passed, here, step}
 use Rattle.curve_laws.specs.PassedCorners.{passed-same}
@@ -179,9 +179,9 @@ too-long n x t q v f g properF properG same uses shared enough less =
 
 -- where W holds the work, all requests are placed
 pub holds-places-all : (p : Plan) (w : Workload) (n : ℕ) (xs : List ℕ) (s : ℕ)
-    → SoundPlan p
+    → SoundFrom p (w .start)
     → 1 ≤ w .computing
-    → n ≤ mostSpan p
+    → n ≤ mostSpan p (w .start)
     → Holds p w n
     → PlacedAt p w n xs s
     → sumOf xs ≡ w .requests
@@ -189,20 +189,20 @@ holds-places-all p w n xs s sound some inside holds a =
     ⊎-elim
     (λ e. e)
     (λ less.
-    let sums = plan-whole p sound in
-    let concave = parts-concave (p .perPeriod) (w .core) (sharesAt p n) (rows p) (a .parts) sums (a .ofPlan) in
+    let sums = plan-whole p (sound .plan) in
+    let concave = parts-concave (p .perPeriod) (w .core) (sharesFrom p (w .start) n) (rows p) (a .parts) sums (a .ofPlan) in
     let full = left-over-full (a .parts) (w .requests) xs concave (a .answered) less in
-    let uses = all-uses (p .perPeriod) (w .core) (sharesAt p n) (rows p) (a .parts) xs sums (a .ofPlan) concave full in
+    let uses = all-uses (p .perPeriod) (w .core) (sharesFrom p (w .start) n) (rows p) (a .parts) xs sums (a .ofPlan) concave full in
     let f = total (a .parts) xs in
     let g = placed-at-greatest p w sound n xs s a in
     let same = stall-at-same p w sound n f (holds .stall) g (holds .greatest) in
     absurd
-    (too-long (work w) (sumOf xs) n (p .perPeriod) (sumOf (sharesAt p n)) f (holds .stall)
+    (too-long (work w) (sumOf xs) n (p .perPeriod) (sumOf (sharesFrom p (w .start) n)) f (holds .stall)
     (parts-proper (a .parts) xs concave)
     (stall-at-proper p w sound n (holds .stall) (holds .greatest))
     same
     uses
-    (shared-out p n sound inside)
+    (shared-out p (w .start) n sound inside)
     (holds .enough)
     (omega (arith, some, less))))
     (eq-or-lt-of-le (a .answered .greatest .placed .within))

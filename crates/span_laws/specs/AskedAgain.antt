@@ -13,7 +13,7 @@ use Rattle.meaning.specs.Promises.{SpanFigures, SpanGiven, SpanAnswered}
 use Rattle.meaning.specs.Again.{NoMoreWork, until}
 use Rattle.number_laws.specs.Order.{le-or-lt}
 use Rattle.number_laws.specs.Fractions.{le-trans-fraction, sum-le, sum-proper}
-use Rattle.plan_laws.specs.SoundPlan.{SoundPlan, SoundCore}
+use Rattle.plan_laws.specs.SoundPlan.{SoundFrom, SoundCore}
 use Rattle.span_laws.specs.StallAtW.{stall-at-proper, stall-at-grows, placed-at-greatest, placed-at-exists}
 use Rattle.span_laws.specs.TermsRise.{span-unique, span-not-none}
 use Rattle.span_laws.specs.SearchFinds.{span-or-none}
@@ -21,7 +21,7 @@ use Rattle.span_laws.specs.SpanQuestion.{SoundSpan, span-answer-unique, 
 
 -- where a stall is no larger and there is no more work, what holds the work still holds it
 pub holds-under : (p q : Plan) (w v : Workload) (n : ℕ) (g : Fraction)
-    → SoundPlan p
+    → SoundFrom p (w .start)
     → q .perPeriod ≡ p .perPeriod
     → work v ≤ work w
     → StallAt q v n g
@@ -45,14 +45,19 @@ holds-under p q w v n g sound slots less stall h le =
           (h .enough));
     }
 
-module _ (p : Plan) (w v : Workload) (sound : SoundPlan p) (less : NoMoreWork v w) where
+-- less work has the same start
+from-less : (p : Plan) (w v : Workload) → NoMoreWork v w → SoundFrom p (w .start) → SoundFrom p (v .start)
+from-less p w v less = subst (SoundFrom p) (sym (less .start))
+
+module _ (p : Plan) (w v : Workload) (sound : SoundFrom p (w .start)) (less : NoMoreWork v w) where
   -- what holds the work holds less work too
   holds-less : (n : ℕ) → Holds p w n → Holds p v n
   holds-less n h =
-      let found = placed-at-exists p v sound n in
-      let stall = placed-at-greatest p v sound n (found .0) (found .1) (found .2) in
+      let from = from-less p w v less sound in
+      let found = placed-at-exists p v from n in
+      let stall = placed-at-greatest p v from n (found .0) (found .1) (found .2) in
       holds-under p p w v n (total (found .2 .parts) (found .0)) sound refl (omega (arith, less .computing, less .requests)) stall h
-      (stall-at-grows p w sound v n n _ (h .stall) (less .core) (less .requests) (le-refl n) stall (h .greatest))
+      (stall-at-grows p w sound v n n _ (h .stall) (less .core) (less .requests) (less .start) (le-refl n) stall (h .greatest))
 
   -- with less work a span is given, and it is no larger
   less-work : (n : ℕ) → 1 ≤ v .computing → n ≤ v .horizon → IsSpan p w n → (m : ℕ) × IsSpan p v m × (m ≤ n)
@@ -63,7 +68,7 @@ module _ (p : Plan) (w v : Workload) (sound : SoundPlan p) (less : NoMoreWork v 
       let m = found .0 in
       (m, found .2, ⊎-elim (λ le. le) (λ lt. absurd (found .2 .least n (span .positive) lt holds)) (le-or-lt m n)))
       (λ nothing. absurd (nothing n (span .positive) inside holds))
-      (span-or-none p v sound some)
+      (span-or-none p v (from-less p w v less sound) some)
 
 -- up to the horizon of w the plan p has for w the terms that q has for v, and the same periods hold the work
 pub record Alike (p q : Plan) (w v : Workload) : Type 0 where
@@ -146,7 +151,7 @@ answer-room p w room room' a xs answer none lent =
     let s = asked .0 in
     given-answer p w room' a xs
     (record {
-      plan = s .plan;
+      from = s .from;
       analysed = s .analysed;
       someComputing = s .someComputing;
       fewComputing = s .fewComputing;
@@ -163,11 +168,11 @@ sound-less : (p : Plan) (w v : Workload) (room : ℕ)
     → NoMoreWork v w
     → 1 ≤ v .computing
     → 1 ≤ v .horizon
-    → v .horizon ≤ mostSpan p
+    → v .horizon ≤ mostSpan p (v .start)
     → SoundSpan p v room
 sound-less p w v room s less some positive inLimit =
     record {
-      plan = s .plan;
+      from = from-less p w v less (s .from);
       analysed = subst (SoundCore p) (sym (less .core)) (s .analysed);
       someComputing = some;
       fewComputing = le-trans (less .computing) (s .fewComputing);
@@ -184,19 +189,19 @@ pub asked-less : (p : Plan) (w v : Workload) (room : ℕ) (a b : SpanFigures) (x
     → NoMoreWork v w
     → 1 ≤ v .computing
     → a .span ≤ v .horizon
-    → v .horizon ≤ mostSpan p
+    → v .horizon ≤ mostSpan p (v .start)
     → SpanAnswered p v room b ys
     → (b .refused ≡ 0) × (b .span ≤ a .span)
 asked-less p w v room a b xs ys first none less some inside inLimit again =
     let asked = answer-given p w room a xs first none in
-    let plan = asked .0 .plan in
-    let found = less-work p w v plan less (a .span) some inside (asked .1 .isSpan) in
+    let found = less-work p w v (asked .0 .from) less (a .span) some inside (asked .1 .isSpan) in
+    let from = from-less p w v less (asked .0 .from) in
     ⊎-elim
     (λ given. (
       given .answered,
-      subst (λ (n : ℕ). n ≤ a .span) (span-unique p v plan (found .0) (b .span) (found .1) (given .isSpan)) (found .2),
+      subst (λ (n : ℕ). n ≤ a .span) (span-unique p v from (found .0) (b .span) (found .1) (given .isSpan)) (found .2),
     ))
-    (λ nothing. absurd (span-not-none p v plan (found .0) (found .1) (nothing .0)))
+    (λ nothing. absurd (span-not-none p v from (found .0) (found .1) (nothing .0)))
     (sound-answer p v room b ys (sound-less p w v room (asked .0) less some (le-trans (asked .1 .isSpan .positive) inside) inLimit) again)
 
 -- asked again up to a later horizon, the answer is the same
@@ -204,13 +209,13 @@ pub asked-later : (p : Plan) (w : Workload) (h room : ℕ) (a b : SpanFigures) (
     → SpanAnswered p w room a xs
     → a .refused ≡ 0
     → w .horizon ≤ h
-    → h ≤ mostSpan p
+    → h ≤ mostSpan p (w .start)
     → SpanAnswered p (until w h) room b ys
     → (b ≡ a) × (ys ≡ xs)
 asked-later p w h room a b xs ys first none later inLimit again =
     let asked = answer-given p w room a xs first none in
     let less : NoMoreWork (until w h) w =
-    record { core = refl; computing = le-refl (w .computing); requests = le-refl (w .requests) } in
+    record { core = refl; computing = le-refl (w .computing); requests = le-refl (w .requests); start = refl } in
     let sound = sound-less p w (until w h) room (asked .0) less (asked .0 .someComputing) (le-trans (asked .0 .positive) later) inLimit in
     span-answer-unique p (until w h) room b a ys xs again
     (given-answer p (until w h) room a xs sound (later-horizon p w h a xs later (asked .1)))

@@ -9,15 +9,15 @@ use lib.ListN.{length, drop, length-drop}
 use lib.Seq.{take-append-le, drop-append-le}
 use Rattle.meaning.specs.Fraction.{Fraction, _=ᶠ_}
 use Rattle.meaning.specs.Plan.{Plan, Workload, sumOf, intervals, mostSpan, rowsOf, rows}
-use Rattle.meaning.specs.Placement.{Part, sharesAt, PartsOf, Parts, total, GreatestStall, AnsweredAt}
+use Rattle.meaning.specs.Placement.{Part, sharesFrom, PartsOf, Parts, total, GreatestStall, AnsweredAt}
 use Rattle.meaning.specs.Span.{work, Holds, NextTerm}
 use Rattle.meaning.specs.Refusals.{planRefusal}
 use Rattle.meaning.specs.Promises.{SpanFigures, SpanGiven, SpanAnswered}
 use Rattle.meaning.specs.Again.{longer, zerosFor}
 use Rattle.number_laws.specs.Fractions.{round-up-same, same-of-le, same-trans}
 use Rattle.number_laws.specs.Lists.{sum-append}
-use Rattle.plan_laws.specs.SoundPlan.{SoundPlan, sound-plan, WholeRows, plan-whole}
-use Rattle.placement_laws.specs.Shares.{plan-sharing, plan-shares-behind}
+use Rattle.plan_laws.specs.SoundPlan.{SoundPlan, SoundFrom, sound-plan, WholeRows, plan-whole}
+use Rattle.placement_laws.specs.PlanShares.{plan-many, plan-shares-behind}
 use Rattle.placement_laws.specs.StallUnique.{parts-concave, parts-proper, stall-value-proper, stall-value-same}
 use Rattle.placement_laws.specs.PlacementExists.{greatest-exists}
 use Rattle.span_laws.specs.TermsRise.{needed, needed-rises, stall-proper-at}
@@ -43,26 +43,27 @@ rows-behind m (l ∷ ls) bs ls' bs' count =
 rows-longer : (p : Plan) (ls bs : List ℕ) → SoundPlan p → rows (longer p ls bs) ≡ rows p ++ rowsOf (p .cores) ls bs
 rows-longer p ls bs sound = rows-behind (p .cores) (p .lengths) (p .budgets) ls bs (sound .count)
 
-module _ (p : Plan) (ls bs : List ℕ) (core : ℕ) (plain : p .repeating ≡ false) (sound : SoundPlan p) (more : SoundPlan (longer p ls bs)) where
+module _ (p : Plan) (ls bs : List ℕ) (core start : ℕ) (plain : p .repeating ≡ false) (sound : SoundFrom p start)
+    (more : SoundFrom (longer p ls bs) start) where
   -- those of this plan
   addedParts : Added (p .perPeriod) core (p .cores) ls bs
   addedParts =
       added (p .perPeriod) core (p .cores) ls bs
       (all-behind (λ (r : List ℕ). sumOf r ≡ p .perPeriod) (rows p) (rowsOf (p .cores) ls bs)
-      (subst (WholeRows (p .perPeriod)) (rows-longer p ls bs sound) (plan-whole (longer p ls bs) more)))
+      (subst (WholeRows (p .perPeriod)) (rows-longer p ls bs (sound .plan)) (plan-whole (longer p ls bs) (more .plan))))
 
-  module _ (n : ℕ) (inside : n ≤ mostSpan p) (ps : List Part) (ofPlan : Parts p core (sharesAt p n) ps) where
+  module _ (n : ℕ) (inside : n ≤ mostSpan p start) (ps : List Part) (ofPlan : Parts p core (sharesFrom p start n) ps) where
     -- the parts of the longer plan are the parts of the plan with these behind
-    parts-longer : Parts (longer p ls bs) core (sharesAt (longer p ls bs) n) (ps ++ addedParts .parts)
+    parts-longer : Parts (longer p ls bs) core (sharesFrom (longer p ls bs) start n) (ps ++ addedParts .parts)
     parts-longer =
         subst₂
         (λ (ws : List ℕ) (rs : List (List ℕ)). PartsOf (p .perPeriod) core ws rs (ps ++ addedParts .parts))
-        (sym (plan-shares-behind p ls bs n plain inside))
-        (sym (rows-longer p ls bs sound))
+        (sym (plan-shares-behind p ls bs start n plain (sound .below) inside))
+        (sym (rows-longer p ls bs (sound .plan)))
         (parts-behind
         (p .perPeriod)
         core
-        (sharesAt p n)
+        (sharesFrom p start n)
         (zerosFor ls)
         (rows p)
         (rowsOf (p .cores) ls bs)
@@ -74,15 +75,15 @@ module _ (p : Plan) (ls bs : List ℕ) (core : ℕ) (plain : p .repeating ≡ fa
     behind-plan : Behind ps (addedParts .parts) (zerosFor ls)
     behind-plan =
         record {
-          front = parts-concave (p .perPeriod) core (sharesAt p n) (rows p) ps (plan-whole p sound) ofPlan;
+          front = parts-concave (p .perPeriod) core (sharesFrom p start n) (rows p) ps (plan-whole p (sound .plan)) ofPlan;
           all =
               parts-concave
               (p .perPeriod)
               core
-              (sharesAt (longer p ls bs) n)
+              (sharesFrom (longer p ls bs) start n)
               (rows (longer p ls bs))
               (ps ++ addedParts .parts)
-              (plan-whole (longer p ls bs) more)
+              (plan-whole (longer p ls bs) (more .plan))
               parts-longer;
           idle = addedParts .idle;
           none = addedParts .none;
@@ -90,9 +91,9 @@ module _ (p : Plan) (ls bs : List ℕ) (core : ℕ) (plain : p .repeating ≡ fa
 
   -- the answered placement goes on with zeros, and its stall is the same
   longer-answered : (requests n : ℕ) (xs : List ℕ) (s : ℕ)
-      → n ≤ mostSpan p
-      → AnsweredAt p core requests n xs s
-      → AnsweredAt (longer p ls bs) core requests n (xs ++ zerosFor ls) s
+      → n ≤ mostSpan p start
+      → AnsweredAt p core requests start n xs s
+      → AnsweredAt (longer p ls bs) core requests start n (xs ++ zerosFor ls) s
   longer-answered requests n xs s inside h =
       let ps = h .parts in
       let qs = addedParts .parts in
@@ -114,9 +115,9 @@ module _ (p : Plan) (ls bs : List ℕ) (core : ℕ) (plain : p .repeating ≡ fa
 
   -- S(W) has the same value in the longer plan
   longer-stall : (requests n : ℕ) (f : Fraction)
-      → n ≤ mostSpan p
-      → GreatestStall p core requests (sharesAt p n) f
-      → (g : Fraction) × GreatestStall (longer p ls bs) core requests (sharesAt (longer p ls bs) n) g × (g =ᶠ f)
+      → n ≤ mostSpan p start
+      → GreatestStall p core requests (sharesFrom p start n) f
+      → (g : Fraction) × GreatestStall (longer p ls bs) core requests (sharesFrom (longer p ls bs) start n) g × (g =ᶠ f)
   longer-stall requests n f inside h =
       let ps = h .parts in
       let xs = h .placement in
@@ -138,11 +139,11 @@ module _ (p : Plan) (ls bs : List ℕ) (core : ℕ) (plain : p .repeating ≡ fa
 
   -- and the other way round
   shorter-stall : (requests n : ℕ) (g : Fraction)
-      → n ≤ mostSpan p
-      → GreatestStall (longer p ls bs) core requests (sharesAt (longer p ls bs) n) g
-      → (f : Fraction) × GreatestStall p core requests (sharesAt p n) f × (f =ᶠ g)
+      → n ≤ mostSpan p start
+      → GreatestStall (longer p ls bs) core requests (sharesFrom (longer p ls bs) start n) g
+      → (f : Fraction) × GreatestStall p core requests (sharesFrom p start n) f × (f =ᶠ g)
   shorter-stall requests n g inside h =
-      let own = greatest-exists p core sound requests (sharesAt p n) (plan-sharing p sound .many n) in
+      let own = greatest-exists p core (sound .plan) requests (sharesFrom p start n) (plan-many p start n) in
       let there = longer-stall requests n (own .0) inside (own .1) in (
         own .0,
         own .1,
@@ -150,17 +151,17 @@ module _ (p : Plan) (ls bs : List ℕ) (core : ℕ) (plain : p .repeating ≡ fa
             (own .0)
             (there .0)
             g
-            (stall-value-proper (longer p ls bs) core more requests (sharesAt (longer p ls bs) n) (there .0) (there .1))
+            (stall-value-proper (longer p ls bs) core (more .plan) requests (sharesFrom (longer p ls bs) start n) (there .0) (there .1))
             (sym (there .2))
-            (stall-value-same (longer p ls bs) core more requests (sharesAt (longer p ls bs) n) (there .0) g (there .1) h),
+            (stall-value-same (longer p ls bs) core (more .plan) requests (sharesFrom (longer p ls bs) start n) (there .0) g (there .1) h),
       )
 
-module _ (p : Plan) (ls bs : List ℕ) (w : Workload) (plain : p .repeating ≡ false) (sound : SoundPlan p) (more : SoundPlan (longer p ls bs))
-    (within : w .horizon ≤ mostSpan p) where
+module _ (p : Plan) (ls bs : List ℕ) (w : Workload) (plain : p .repeating ≡ false) (sound : SoundFrom p (w .start))
+    (more : SoundFrom (longer p ls bs) (w .start)) (within : w .horizon ≤ mostSpan p (w .start)) where
   -- the terms are the same
   term-longer : (t next : ℕ) → t ≤ w .horizon → NextTerm p w t next → NextTerm (longer p ls bs) w t next
   term-longer t next inside h =
-      let there = longer-stall p ls bs (w .core) plain sound more (w .requests) t (h .stall) (le-trans inside within) (h .greatest) in
+      let there = longer-stall p ls bs (w .core) (w .start) plain sound more (w .requests) t (h .stall) (le-trans inside within) (h .greatest) in
       let own = needed (work w) (p .perPeriod) (h .stall) in
       let other = needed (work w) (p .perPeriod) (there .0) in
       record {
@@ -184,13 +185,13 @@ module _ (p : Plan) (ls bs : List ℕ) (w : Workload) (plain : p .repeating ≡ 
   -- what holds the work holds it in the longer plan
   holds-longer : (n : ℕ) → n ≤ w .horizon → Holds p w n → Holds (longer p ls bs) w n
   holds-longer n inside h =
-      let there = longer-stall p ls bs (w .core) plain sound more (w .requests) n (h .stall) (le-trans inside within) (h .greatest) in
+      let there = longer-stall p ls bs (w .core) (w .start) plain sound more (w .requests) n (h .stall) (le-trans inside within) (h .greatest) in
       holds-under p (longer p ls bs) w w n (there .0) sound refl (le-refl (work w)) (there .1) h (le-of-eq (there .2))
 
   -- and the other way round
   holds-shorter : (n : ℕ) → n ≤ w .horizon → Holds (longer p ls bs) w n → Holds p w n
   holds-shorter n inside h =
-      let own = shorter-stall p ls bs (w .core) plain sound more (w .requests) n (h .stall) (le-trans inside within) (h .greatest) in
+      let own = shorter-stall p ls bs (w .core) (w .start) plain sound more (w .requests) n (h .stall) (le-trans inside within) (h .greatest) in
       holds-under (longer p ls bs) p w w n (own .0) more refl (le-refl (work w)) (own .1) h (le-of-eq (own .2))
 
   -- intervals added behind leave the span the same, and its stall and rounds; the placement goes on with zeros
@@ -213,7 +214,7 @@ module _ (p : Plan) (ls bs : List ℕ) (w : Workload) (plain : p .repeating ≡ 
       a
       xs
       (xs ++ zerosFor ls)
-      (longer-answered p ls bs (w .core) plain sound more (w .requests) (a .span) xs (a .stall)
+      (longer-answered p ls bs (w .core) (w .start) plain sound more (w .requests) (a .span) xs (a .stall)
       (le-trans (given .isSpan .inHorizon) within)
       (given .placement))
       given
@@ -232,7 +233,7 @@ asked-longer p ls bs w room room' a b xs ys plain first none plan lent again =
     let s = asked .0 in
     let sound : SoundSpan (longer p ls bs) w room' =
     record {
-      plan = sound-plan (longer p ls bs) plan;
+      from = record { plan = sound-plan (longer p ls bs) plan; below = omega (arith, s .from .below, sum-append (p .lengths) ls) };
       analysed = record { first = s .analysed .first; last = s .analysed .last };
       someComputing = s .someComputing;
       fewComputing = s .fewComputing;
@@ -243,4 +244,4 @@ asked-longer p ls bs w room room' a b xs ys plain first none plan lent again =
     } in
     span-answer-unique (longer p ls bs) w room' b a ys (xs ++ zerosFor ls) again
     (given-answer (longer p ls bs) w room' a (xs ++ zerosFor ls) sound
-    (longer-span p ls bs w plain (s .plan) (sound .plan) (s .inLimit) a xs (asked .1)))
+    (longer-span p ls bs w plain (s .from) (sound .from) (s .inLimit) a xs (asked .1)))

@@ -11,7 +11,7 @@ use lib.Arith.{lt-of-le-ne}
 use lib.Dec.{ltb, eqb}
 use borrow.Author.Tests.{lt-ltb, le-ltb, eq-eqb, ne-eqb}
 use Rattle.number_laws.specs.Order.{le-or-lt, eq-or-ne}
-use Rattle.plan_laws.specs.SoundPlan.{SoundPlan}
+use Rattle.plan_laws.specs.SoundPlan.{SoundFrom}
 use Rattle.span_laws.specs.StallAtW.{placed-at-exists}
 use Rattle.span_laws.specs.TermsRise.{next-of-stall, AtMostSpan, Climbs, holds-first, holds-next, settled-span, past-no-span, first-climbs, next-climbs, first-positive}
 
@@ -47,7 +47,7 @@ sought-further : (next : ℕ → ℕ) (horizon fuel t : ℕ)
 unfolding sought
 sought-further next horizon fuel t inside other = rw (le-ltb horizon t inside, ne-eqb (next t) t other)
 
-module _ (p : Plan) (w : Workload) (sound : SoundPlan p) (next : ℕ → ℕ) (right : (t : ℕ) → NextTerm p w t (next t)) where
+module _ (p : Plan) (w : Workload) (sound : SoundFrom p (w .start)) (next : ℕ → ℕ) (right : (t : ℕ) → NextTerm p w t (next t)) where
   -- what is found is the span with its rounds from a term on, and nothing only where there is no span
   abbrev pub Right : ℕ → Sought → Type 0
   Right t (found n k) = IsSpan p w n × SettlesFrom p w k t n
@@ -101,7 +101,7 @@ module _ (p : Plan) (w : Workload) (sound : SoundPlan p) (next : ℕ → ℕ) (r
       sought-right (suc (w .horizon)) (firstTerm p w) (omega arith) (first-positive p w sound some) (first-climbs p w sound)
       (λ n holds. holds-first p w sound n holds)
 
-sort : (p : Plan) (w : Workload) (sound : SoundPlan p) (next : ℕ → ℕ) (right : (t : ℕ) → NextTerm p w t (next t)) (s : Sought)
+sort : (p : Plan) (w : Workload) (sound : SoundFrom p (w .start)) (next : ℕ → ℕ) (right : (t : ℕ) → NextTerm p w t (next t)) (s : Sought)
     → Right p w sound next right (firstTerm p w) s
     → ((n : ℕ) × (k : ℕ) × IsSpan p w n × Rounds p w n k) ⊎ NoSpan p w
 sort p w sound next right (found n k) h = inl (n, k, h .0, h .1)
@@ -109,7 +109,7 @@ sort p w sound next right nothing h = inr h
 
 -- a workload has a span with its rounds, or no span
 pub span-or-none : (p : Plan) (w : Workload)
-    → SoundPlan p
+    → SoundFrom p (w .start)
     → 1 ≤ w .computing
     → ((n : ℕ) × (k : ℕ) × IsSpan p w n × Rounds p w n k) ⊎ NoSpan p w
 span-or-none p w sound some =

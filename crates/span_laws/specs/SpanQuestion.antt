@@ -12,10 +12,10 @@ use borrow.Author.Tests.{ltb-false, le-ltb}
 use Rattle.meaning.specs.Plan.{Plan, Workload, intervals, mostSpan, mostWork, sumOf}
 use Rattle.meaning.specs.Fraction.{roundUp}
 use Rattle.meaning.specs.Span.{PlacedAt, work, NoSpan, firstTerm}
-use Rattle.meaning.specs.Refusals.{outside, _before_, planRefusal, coreRefusal, computingRefusal, requestsRefusal, horizonRefusal, roomRefusal, spanRefusal}
+use Rattle.meaning.specs.Refusals.{outside, _before_, planRefusal, coreRefusal, computingRefusal, requestsRefusal, startRefusal, horizonRefusal, roomRefusal, spanRefusal}
 use Rattle.meaning.specs.Promises.{RefusedOr, SpanFigures, noSpanFigures, SpanGiven, SpanAnswered, SpanPromise, written}
 use Rattle.plan_laws.specs.RefusalOrder.{first-zero, second-zero, not-broken, inside, both-judged, both-zero, not-refused, not-outside}
-use Rattle.plan_laws.specs.SoundPlan.{SoundPlan, SoundCore, sound-plan, sound-core, plan-sound, core-sound, span-has}
+use Rattle.plan_laws.specs.SoundPlan.{SoundFrom, SoundCore, sound-plan, sound-core, sound-start, plan-sound, core-sound, start-sound, span-has}
 use Rattle.span_laws.specs.StallAtW.{placed-count, placed-at-unique, placed-at-exists}
 use Rattle.span_laws.specs.TermsRise.{span-unique, span-not-none, settles-unique, next-of-stall, rounds-bound}
 use Rattle.span_laws.specs.SearchFinds.{Sought, found, nothing, sought, Right, search-right}
@@ -23,21 +23,22 @@ use Rattle.span_laws.specs.AllPlaced.{holds-places-all}
 
 -- a span question that is not refused before the search
 pub record SoundSpan (p : Plan) (w : Workload) (room : ℕ) : Type 0 where
-  pub plan : SoundPlan p
+  pub from : SoundFrom p (w .start)
   pub analysed : SoundCore p (w .core)
   pub someComputing : 1 ≤ w .computing
   pub fewComputing : w .computing ≤ mostWork
   pub fewRequests : w .requests ≤ mostWork
   pub positive : 1 ≤ w .horizon
-  pub inLimit : w .horizon ≤ mostSpan p
+  pub inLimit : w .horizon ≤ mostSpan p (w .start)
   pub enoughRoom : intervals p ≤ room
 
 -- a span question without a refusal before the search is sound
 pub sound-span : (p : Plan) (w : Workload) (room : ℕ) → spanRefusal p w room ≡ 0 → SoundSpan p w room
 unfolding spanRefusal
 sound-span p w room e =
-    let fifth = roomRefusal (intervals p) room in
-    let fourth = horizonRefusal p (w .horizon) before fifth in
+    let sixth = roomRefusal (intervals p) room in
+    let fifth = horizonRefusal p (w .start) (w .horizon) before sixth in
+    let fourth = startRefusal p (w .start) before fifth in
     let third = requestsRefusal (w .requests) before fourth in
     let second = computingRefusal (w .computing) before third in
     let first = coreRefusal p (w .core) before second in
@@ -46,19 +47,26 @@ sound-span p w room e =
     let asked = second-zero (computingRefusal (w .computing)) third computing in
     let later = second-zero (requestsRefusal (w .requests)) fourth asked in
     let some = inside 1 mostWork (w .computing) (not-broken (outside 1 mostWork (w .computing)) 7 (first-zero (computingRefusal (w .computing)) third computing)) in
-    let within = inside 1 (mostSpan p) (w .horizon) (not-broken (outside 1 (mostSpan p) (w .horizon)) 9 (first-zero (horizonRefusal p (w .horizon)) fifth later)) in
+    let horizon = second-zero (startRefusal p (w .start)) fifth later in
+    let most = mostSpan p (w .start) in
+    let ten = horizonRefusal p (w .start) (w .horizon) in
+    let within = inside 1 most (w .horizon) (not-broken (outside 1 most (w .horizon)) 9 (first-zero ten sixth horizon)) in
     record {
-      plan = sound-plan p (first-zero (planRefusal p) first e);
+      from =
+          record {
+            plan = sound-plan p (first-zero (planRefusal p) first e);
+            below = sound-start p (w .start) (first-zero (startRefusal p (w .start)) fifth later);
+          };
       analysed = sound-core p (w .core) (first-zero (coreRefusal p (w .core)) second cores);
       someComputing = some .0;
       fewComputing = some .1;
       fewRequests = inside 0 mostWork (w .requests) (not-broken (outside 0 mostWork (w .requests)) 8 (first-zero (requestsRefusal (w .requests)) fourth asked)) .1;
       positive = within .0;
       inLimit = within .1;
-      enoughRoom = ltb-false room (intervals p) (not-broken (ltb room (intervals p)) 10 (second-zero (horizonRefusal p (w .horizon)) fifth later));
+      enoughRoom = ltb-false room (intervals p) (not-broken (ltb room (intervals p)) 10 (second-zero ten sixth horizon));
     }
 
-given-same : (p : Plan) (w : Workload) (sound : SoundPlan p) (a b : SpanFigures) (xs ys : List ℕ)
+given-same : (p : Plan) (w : Workload) (sound : SoundFrom p (w .start)) (a b : SpanFigures) (xs ys : List ℕ)
     → SpanGiven p w a xs
     → SpanGiven p w b ys
     → (a ≡ b) × (xs ≡ ys)
@@ -72,7 +80,7 @@ given-same p w sound a b xs ys ga gb =
     (λ i. record { refused = refused i; span = spans i; stall = same .1 i; rounds = rounds i }, same .0)
 
 -- given or not, two searches agree
-both-given : (p : Plan) (w : Workload) (sound : SoundPlan p) (a b : SpanFigures) (xs ys : List ℕ)
+both-given : (p : Plan) (w : Workload) (sound : SoundFrom p (w .start)) (a b : SpanFigures) (xs ys : List ℕ)
     → SpanGiven p w a xs ⊎ (NoSpan p w × (a ≡ noSpanFigures 12) × (xs ≡ []))
     → SpanGiven p w b ys ⊎ (NoSpan p w × (b ≡ noSpanFigures 12) × (ys ≡ []))
     → (a ≡ b) × (xs ≡ ys)
@@ -89,7 +97,7 @@ pub span-answer-unique : (p : Plan) (w : Workload) (room : ℕ) (a b : SpanFigur
 span-answer-unique p w room a b xs ys ha hb =
     both-judged (spanRefusal p w room) _ _ _ _ _
     (λ number ra rb. (ra .0 ∙ sym (rb .0), ra .1 ∙ sym (rb .1)))
-    (λ e ga gb. both-given p w (sound-span p w room e .plan) a b xs ys ga gb)
+    (λ e ga gb. both-given p w (sound-span p w room e .from) a b xs ys ga gb)
     ha
     hb
 
@@ -120,7 +128,7 @@ nextBy p w stall t = roundUp (record { num = work w + stall t; den = p .perPerio
 abbrev pub searchBy : Plan → Workload → (ℕ → ℕ) → Sought
 searchBy p w stall = sought (nextBy p w stall) (w .horizon) (suc (w .horizon)) (firstTerm p w)
 
-sought-answer : (p : Plan) (w : Workload) (sound : SoundPlan p) (stall : ℕ → ℕ) (placement : ℕ → List ℕ)
+sought-answer : (p : Plan) (w : Workload) (sound : SoundFrom p (w .start)) (stall : ℕ → ℕ) (placement : ℕ → List ℕ)
     (given : (t : ℕ) → PlacedAt p w t (placement t) (stall t))
     (s : Sought)
     → Right p w sound (nextBy p w stall) (λ t. next-of-stall p w sound t (stall t) (placement t) (given t)) (firstTerm p w) s
@@ -146,9 +154,9 @@ search-answer p w room stall placement e given =
     (λ n. (figures ≡ noSpanFigures n) × (xs ≡ []))
     (SpanGiven p w figures xs ⊎ (NoSpan p w × (figures ≡ noSpanFigures 12) × (xs ≡ []))))
     (sym e)
-    (sought-answer p w (sound .plan) stall placement given (searchBy p w stall)
-    (search-right p w (sound .plan) (nextBy p w stall)
-    (λ t. next-of-stall p w (sound .plan) t (stall t) (placement t) (given t))
+    (sought-answer p w (sound .from) stall placement given (searchBy p w stall)
+    (search-right p w (sound .from) (nextBy p w stall)
+    (λ t. next-of-stall p w (sound .from) t (stall t) (placement t) (given t))
     (sound .someComputing)))
 
 refused-answer : (p : Plan) (w : Workload) (room n : ℕ) → spanRefusal p w room ≡ suc n → SpanAnswered p w room (noSpanFigures (suc n)) []
@@ -167,7 +175,7 @@ answer-exists : (p : Plan) (w : Workload) (room number : ℕ)
     → (a : SpanFigures) × (xs : List ℕ) × SpanAnswered p w room a xs
 answer-exists p w room zero e =
     let sound = sound-span p w room e in
-    let at = placed-at-exists p w (sound .plan) in (
+    let at = placed-at-exists p w (sound .from) in (
       soughtFigures (λ t. at t .1) (searchBy p w (λ t. at t .1)),
       soughtPlacement (λ t. at t .0) (searchBy p w (λ t. at t .1)),
       search-answer p w room (λ t. at t .1) (λ t. at t .0) e (λ t. at t .2),
@@ -183,12 +191,13 @@ span-answer-exists p w room =
 span-sound : (p : Plan) (w : Workload) (room : ℕ) → SoundSpan p w room → spanRefusal p w room ≡ 0
 unfolding spanRefusal
 span-sound p w room s =
-    both-zero (plan-sound p (s .plan))
+    both-zero (plan-sound p (s .from .plan))
     (both-zero (core-sound p (w .core) (s .analysed))
     (both-zero (not-refused 8 (not-outside (s .someComputing) (s .fewComputing)))
     (both-zero (not-refused 9 (not-outside zero-le (s .fewRequests)))
+    (both-zero (start-sound p (w .start) (s .from .below))
     (both-zero (not-refused 10 (not-outside (s .positive) (s .inLimit)))
-    (not-refused 11 (le-ltb room (intervals p) (s .enoughRoom)))))))
+    (not-refused 11 (le-ltb room (intervals p) (s .enoughRoom))))))))
 
 -- what "span" answers, by the number that it is judged with
 abbrev AnswerBy : Plan → Workload → SpanFigures → List ℕ → ℕ → Type 0
@@ -234,9 +243,9 @@ span-promise-exists p w place =
     let found = span-answer-exists p w (length place) in
     (found .0, written (found .1) place, (found .1, found .2, refl))
 
--- what is judged before the span is sought is refused with at most 11
-refusal-few : (p : Plan) (w : Workload) (room : ℕ) → spanRefusal p w room ≤ 11
-refusal-few p w room = span-has (λ n. n ≤ 11) p w room (λ n le other. le)
+-- what is judged before the span is sought is not refused with 12
+not-twelve : (p : Plan) (w : Workload) (room : ℕ) → spanRefusal p w room ≡ 12 → ⊥
+not-twelve p w room = span-has (λ n. n ≡ 12 → ⊥) p w room (λ n seven twelve. twelve)
 
 module _ (p : Plan) (w : Workload) (room : ℕ) (a : SpanFigures) (xs : List ℕ) (h : SpanAnswered p w room a xs) where
   -- a span once given has all requests placed
@@ -251,7 +260,7 @@ module _ (p : Plan) (w : Workload) (room : ℕ) (a : SpanFigures) (xs : List ℕ
       (a .span)
       xs
       (a .stall)
-      (sound .plan)
+      (sound .from)
       (sound .someComputing)
       (le-trans (given .isSpan .inHorizon) (sound .inLimit))
       (given .isSpan .holds)
@@ -261,23 +270,23 @@ module _ (p : Plan) (w : Workload) (room : ℕ) (a : SpanFigures) (xs : List ℕ
   pub answer-rounds : a .refused ≡ 0 → a .rounds + firstTerm p w ≤ a .span + 1
   answer-rounds answered =
       let both = answer-given p w room a xs h answered in
-      rounds-bound p w (both .0 .plan) (a .rounds) (a .span) (both .1 .rounds)
+      rounds-bound p w (both .0 .from) (a .rounds) (a .span) (both .1 .rounds)
 
   -- 12 exactly where nothing else is refused and there is no span
   pub answer-twelve : (a .refused ≡ 12) ↔ ((spanRefusal p w room ≡ 0) × NoSpan p w)
   answer-twelve = (
-    λ twelve. let none = judged (spanRefusal p w room) refl (refusal-few p w room) h twelve in (none, by-span none .0 twelve),
+    λ twelve. let none = judged (spanRefusal p w room) refl (not-twelve p w room) h twelve in (none, by-span none .0 twelve),
     λ nothing. by-span (nothing .0) .1 (nothing .1),
   )
     where
       judged : (n : ℕ)
           → spanRefusal p w room ≡ n
-          → n ≤ 11
+          → (n ≡ 12 → ⊥)
           → RefusedOr n (λ k. (a ≡ noSpanFigures k) × (xs ≡ [])) (SpanGiven p w a xs ⊎ (NoSpan p w × (a ≡ noSpanFigures 12) × (xs ≡ [])))
           → a .refused ≡ 12
           → spanRefusal p w room ≡ 0
-      judged zero e few answered twelve = e
-      judged (suc n) e few answered twelve = absurd (omega (arith, few, twelve, ap (λ (b : SpanFigures). b .refused) (answered .0)))
+      judged zero e other answered twelve = e
+      judged (suc n) e other answered twelve = absurd (other (sym (ap (λ (b : SpanFigures). b .refused) (answered .0)) ∙ twelve))
 
       by-span : spanRefusal p w room ≡ 0 → (a .refused ≡ 12) ↔ NoSpan p w
       by-span e =
@@ -285,7 +294,7 @@ module _ (p : Plan) (w : Workload) (room : ℕ) (a : SpanFigures) (xs : List ℕ
           ⊎-elim
           (λ given. (
             λ twelve. absurd (ne-of-lt (lit< tt) (sym (given .answered) ∙ twelve)),
-            λ none. absurd (span-not-none p w (sound .plan) (a .span) (given .isSpan) none),
+            λ none. absurd (span-not-none p w (sound .from) (a .span) (given .isSpan) none),
           ))
           (λ none. (λ twelve. none .0, λ again. ap (λ (b : SpanFigures). b .refused) (none .1)))
           (sound-answer p w room a xs sound h)
@@ -303,7 +312,7 @@ pub seen-span : (p : Plan) (w : Workload) (place : List ℕ) (a : SpanFigures) (
     → SeenSpan p w place a after
 seen-span p w place a after (xs, answer, wrote) none =
     let both = answer-given p w (length place) a xs answer none in
-    let count : length xs ≡ intervals p = placed-count p w (a .span) xs (a .stall) (both .0 .plan) (both .1 .placement) in
+    let count : length xs ≡ intervals p = placed-count p w (a .span) xs (a .stall) (both .1 .placement) in
     let front : take (intervals p) after ≡ xs =
     ap (take (intervals p)) wrote ∙ ap (λ (n : ℕ). take n (written xs place)) (sym count) ∙ take-append-seam xs (drop (length xs) place) in
     let rest : drop (intervals p) after ≡ drop (intervals p) place =

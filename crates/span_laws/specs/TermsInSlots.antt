@@ -13,7 +13,7 @@ use Rattle.meaning.specs.Curve.{Curve, limit, raw, EnvelopeOf, intervalStall}
 use Rattle.meaning.specs.Placement.{Part, PartsOf, Fitting, total, AnsweredWith}
 use Rattle.meaning.specs.Span.{PlacedAt, work, IsSpan, NoSpan, firstTerm, NextTerm, SettlesFrom, Rounds}
 use Rattle.number_laws.specs.Fractions.{TimesLe, times-le-sum, round-up-holds, round-up-least}
-use Rattle.plan_laws.specs.SoundPlan.{SoundPlan, WholeRows, plan-whole}
+use Rattle.plan_laws.specs.SoundPlan.{SoundPlan, SoundFrom, WholeRows, plan-whole}
 use Rattle.curve_laws.specs.RawStall.{raw-le}
 use Rattle.curve_laws.specs.Certificate.{partStall}
 use Rattle.curve_laws.specs.StallConcave.{under-bound}
@@ -82,7 +82,7 @@ stall-fits p core requests ws xs s sound few a =
 
 -- the term after W, from the answered stall there: the periods that hold the work and the stall
 pub next-answered : (p : Plan) (w : Workload) (t : ℕ) (xs : List ℕ) (s : ℕ)
-    → SoundPlan p
+    → SoundFrom p (w .start)
     → PlacedAt p w t xs s
     → NextTerm p w t (holding (p .perPeriod) (work w + s))
 unfolding roundUp
@@ -125,7 +125,7 @@ module _ (next : ℕ → ℕ) (first horizon : ℕ) where
 
 -- 004's terms rise
 pub terms-rise : (p : Plan) (w : Workload) (next : ℕ → ℕ)
-    → SoundPlan p
+    → SoundFrom p (w .start)
     → ((t : ℕ) → NextTerm p w t (next t))
     → RisingTerms next (firstTerm p w)
 terms-rise p w next sound terms =
@@ -135,7 +135,7 @@ terms-rise p w next sound terms =
     }
 
 -- where the terms up to the horizon are these
-module _ (p : Plan) (w : Workload) (sound : SoundPlan p) (next : ℕ → ℕ) (terms : (t : ℕ) → t ≤ w .horizon → NextTerm p w t (next t)) where
+module _ (p : Plan) (w : Workload) (sound : SoundFrom p (w .start)) (next : ℕ → ℕ) (terms : (t : ℕ) → t ≤ w .horizon → NextTerm p w t (next t)) where
   reached-under : (k t : ℕ) → TermReached next (firstTerm p w) (w .horizon) k t → AtMostSpan p w sound t
   reached-under zero t e n holds = subst (λ (m : ℕ). m ≤ n) (sym e) (holds-first p w sound n holds)
   reached-under (suc k) t (u, reached, inside, other, e) n holds =

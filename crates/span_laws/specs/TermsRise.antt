@@ -12,7 +12,7 @@ use Rattle.meaning.specs.Placement.{total}
 use Rattle.meaning.specs.Span.{PlacedAt, work, StallAt, Holds, IsSpan, NoSpan, firstTerm, NextTerm, SettlesFrom, Rounds}
 use Rattle.number_laws.specs.Order.{le-or-lt}
 use Rattle.number_laws.specs.Fractions.{round-up-holds, round-up-least, round-up-rises, round-up-twice}
-use Rattle.plan_laws.specs.SoundPlan.{SoundPlan}
+use Rattle.plan_laws.specs.SoundPlan.{SoundFrom}
 use Rattle.span_laws.specs.StallAtW.{stall-at-proper, stall-at-rises, placed-at-greatest}
 
 -- the slots that a stall makes with the work, in periods of q slots
@@ -38,11 +38,11 @@ holds-core n q t f g proper le enough =
 settled-core : (n q : ℕ) (f : Fraction) → Proper (needed n q f) → whole n +ᶠ f ≤ᶠ whole (roundUp (needed n q f) * q)
 settled-core n q f proper = omega (arith, round-up-holds (needed n q f) proper)
 
-module _ (p : Plan) (w : Workload) (sound : SoundPlan p) where
+module _ (p : Plan) (w : Workload) (sound : SoundFrom p (w .start)) where
   -- and they are a fraction with a divisor of at least 1
   pub stall-proper-at : (t : ℕ) (f : Fraction) → StallAt p w t f → Proper (needed (work w) (p .perPeriod) f)
   stall-proper-at t f h =
-      needed-proper (work w) (p .perPeriod) f (sound .someSlots) (stall-at-proper p w sound t f h)
+      needed-proper (work w) (p .perPeriod) f (sound .plan .someSlots) (stall-at-proper p w sound t f h)
 
   -- a later term is no smaller
   pub next-rises : (t v a b : ℕ) → t ≤ v → NextTerm p w t a → NextTerm p w v b → a ≤ b
@@ -72,12 +72,12 @@ module _ (p : Plan) (w : Workload) (sound : SoundPlan p) where
         rounded =
             ap (λ (n : ℕ). roundUp (record { num = work w + n; den = p .perPeriod })) (h .rounded)
             ∙ sym
-            (round-up-twice (work w) (p .perPeriod) (total (h .parts) xs) (sound .someSlots)
+            (round-up-twice (work w) (p .perPeriod) (total (h .parts) xs) (sound .plan .someSlots)
             (stall-at-proper p w sound t (total (h .parts) xs) g));
       }
 
   first-proper : Proper (dividedBy (whole (work w)) (p .perPeriod))
-  first-proper = mul-pos (le-refl 1) (sound .someSlots)
+  first-proper = mul-pos (le-refl 1) (sound .plan .someSlots)
 
   -- every term is at least the first
   pub first-least : (t a : ℕ) → NextTerm p w t a → firstTerm p w ≤ a

@@ -12,7 +12,7 @@ use borrow.Author.Tests.{leb-true, ltb-true, eqb-true}
 use Rattle.meaning.specs.Fraction.{whole, _≤ᶠ_, roundUp}
 use Rattle.meaning.specs.Plan.{Plan, Workload, intervals, rows, budgetOf}
 use Rattle.meaning.specs.Curve.{Corner, Curve, limit, slope, onSegment, OnRaw, Rising, Falling, Covering, Envelope, EnvelopeOf, raw}
-use Rattle.meaning.specs.Placement.{sharesAt, AnsweredAt}
+use Rattle.meaning.specs.Placement.{sharesFrom, AnsweredAt}
 use Rattle.meaning.specs.Refusals.{placementRefusal, spanRefusal}
 use Rattle.meaning.specs.Promises.{SpanAnswered}
 use Rattle.meaning.specs.Span.{NextTerm}
@@ -22,7 +22,7 @@ use Rattle.plan_laws.specs.SoundPlan.{SoundPlan}
 use Rattle.placement_laws.specs.Filling.{fill}
 use Rattle.placement_laws.specs.FillingAnswers.{filledStall}
 use Rattle.placement_laws.specs.OrderMerged.{none, within, orderTo}
-use Rattle.placement_laws.specs.Shares.{plan-sharing}
+use Rattle.placement_laws.specs.PlanShares.{plan-many}
 use Rattle.placement_laws.specs.PlacementExists.{CurvesOf, baseOf, answered-in-order}
 use Rattle.placement_laws.specs.PlacementQuestion.{sound-placement}
 use Rattle.span_laws.specs.TermsRise.{next-of-stall}
@@ -166,24 +166,24 @@ claimed-curves p core sound cs right i h =
     curves-checked (p .perPeriod) core (rows p) cs right i (subst (λ (n : ℕ). i < n) (sym (sound .rowsCount)) h)
 
 -- the stall at t periods, by the order of the segments of given curves
-abbrev pub claimedStall : Plan → ℕ → ℕ → List Curve → ℕ → ℕ
-claimedStall p core requests cs t =
+abbrev pub claimedStall : Plan → ℕ → ℕ → ℕ → List Curve → ℕ → ℕ
+claimedStall p core requests start cs t =
     roundUp
     (filledStall
     (intervals p)
-    (λ i. getD (sharesAt p t) i 0)
+    (λ i. getD (sharesFrom p start t) i 0)
     (baseOf p core)
     (orderTo (intervals p) (within 0 (intervals p) (λ i. getD cs i none)))
     requests)
 
 -- and the placement
-abbrev pub claimedPlacement : Plan → ℕ → ℕ → List Curve → ℕ → List ℕ
-claimedPlacement p core requests cs t =
+abbrev pub claimedPlacement : Plan → ℕ → ℕ → ℕ → List Curve → ℕ → List ℕ
+claimedPlacement p core requests start cs t =
     listFrom
     0
     (intervals p)
     (fill
-    (λ i. getD (sharesAt p t) i 0)
+    (λ i. getD (sharesFrom p start t) i 0)
     (orderTo (intervals p) (within 0 (intervals p) (λ i. getD cs i none)))
     requests
     (λ j. 0))
@@ -197,57 +197,58 @@ pub claim-answer : (p : Plan) (w : Workload) (room : ℕ) (cs : List Curve)
     w
     room
     (soughtFigures
-    (claimedStall p (w .core) (w .requests) cs)
-    (searchBy p w (claimedStall p (w .core) (w .requests) cs)))
+    (claimedStall p (w .core) (w .requests) (w .start) cs)
+    (searchBy p w (claimedStall p (w .core) (w .requests) (w .start) cs)))
     (soughtPlacement
-    (claimedPlacement p (w .core) (w .requests) cs)
-    (searchBy p w (claimedStall p (w .core) (w .requests) cs)))
+    (claimedPlacement p (w .core) (w .requests) (w .start) cs)
+    (searchBy p w (claimedStall p (w .core) (w .requests) (w .start) cs)))
 claim-answer p w room cs e right =
     let sound = sound-span p w room e in
     search-answer
     p
     w
     room
-    (claimedStall p (w .core) (w .requests) cs)
-    (claimedPlacement p (w .core) (w .requests) cs)
+    (claimedStall p (w .core) (w .requests) (w .start) cs)
+    (claimedPlacement p (w .core) (w .requests) (w .start) cs)
     e
     (λ t.
-    answered-in-order p (w .core) (sound .plan) (λ i. getD cs i none)
-    (claimed-curves p (w .core) (sound .plan) cs right)
-    (sharesAt p t)
-    (plan-sharing p (sound .plan) .many t)
+    answered-in-order p (w .core) (sound .from .plan) (λ i. getD cs i none)
+    (claimed-curves p (w .core) (sound .from .plan) cs right)
+    (sharesFrom p (w .start) t)
+    (plan-many p (w .start) t)
     (w .requests))
 
 -- the same for a given number of periods
-pub claim-placement : (p : Plan) (core requests n room : ℕ) (cs : List Curve)
-    → placementRefusal p core requests n room ≡ 0
+pub claim-placement : (p : Plan) (core requests start n room : ℕ) (cs : List Curve)
+    → placementRefusal p core requests start n room ≡ 0
     → curvesRight (p .perPeriod) core (rows p) cs ≡ true
     → AnsweredAt
     p
     core
     requests
+    start
     n
-    (claimedPlacement p core requests cs n)
-    (claimedStall p core requests cs n)
-claim-placement p core requests n room cs e right =
-    let sound = sound-placement p core requests n room e in
-    answered-in-order p core (sound .plan) (λ i. getD cs i none)
-    (claimed-curves p core (sound .plan) cs right)
-    (sharesAt p n)
-    (plan-sharing p (sound .plan) .many n)
+    (claimedPlacement p core requests start cs n)
+    (claimedStall p core requests start cs n)
+claim-placement p core requests start n room cs e right =
+    let sound = sound-placement p core requests start n room e in
+    answered-in-order p core (sound .from .plan) (λ i. getD cs i none)
+    (claimed-curves p core (sound .from .plan) cs right)
+    (sharesFrom p start n)
+    (plan-many p start n)
     requests
 
 -- with checked curves for all intervals, the term after t is that of the stall by them
 pub claim-next : (p : Plan) (w : Workload) (t room : ℕ) (cs : List Curve)
-    → placementRefusal p (w .core) (w .requests) t room ≡ 0
+    → placementRefusal p (w .core) (w .requests) (w .start) t room ≡ 0
     → curvesRight (p .perPeriod) (w .core) (rows p) cs ≡ true
-    → NextTerm p w t (nextBy p w (claimedStall p (w .core) (w .requests) cs) t)
+    → NextTerm p w t (nextBy p w (claimedStall p (w .core) (w .requests) (w .start) cs) t)
 claim-next p w t room cs e right =
     next-of-stall
     p
     w
-    (sound-placement p (w .core) (w .requests) t room e .plan)
+    (sound-placement p (w .core) (w .requests) (w .start) t room e .from)
     t
-    (claimedStall p (w .core) (w .requests) cs t)
-    (claimedPlacement p (w .core) (w .requests) cs t)
-    (claim-placement p (w .core) (w .requests) t room cs e right)
+    (claimedStall p (w .core) (w .requests) (w .start) cs t)
+    (claimedPlacement p (w .core) (w .requests) (w .start) cs t)
+    (claim-placement p (w .core) (w .requests) (w .start) t room cs e right)

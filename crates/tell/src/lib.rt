@@ -5,7 +5,6 @@ use span::SpanAnswer;
 use units::Head;
 use units::Periods;
 use units::Refusal;
-use units::Requests;
 use units::Workload;
 use units::wide;
 
@@ -76,19 +75,27 @@ pub fn tell_span(
     }
 }
 
-// The placement and stall at a given W, with the placement.
+// The placement and stall at a given W of a workload's requests from its start, with the placement.
 pub fn tell_placement(
     words: &[u8],
     head: Head,
     lengths: &[u16],
     budgets: &[u16],
-    core: u8,
-    requests: Requests,
+    workload: Workload,
     periods: Periods,
     placement: &mut [u32],
 ) {
     say(words);
-    match span::placement(head, lengths, budgets, core, requests, periods, placement) {
+    match span::placement(
+        head,
+        lengths,
+        budgets,
+        workload.core,
+        workload.requests,
+        workload.start,
+        periods,
+        placement,
+    ) {
         PlacementAnswer::Stall(stall) => {
             say(b" stall");
             tell(stall.0);

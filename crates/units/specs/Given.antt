@@ -22,7 +22,13 @@ planOf h lengths budgets =
 -- the workload that a workload's value gives
 abbrev pub workloadOf : Workload → meant.Workload
 workloadOf w =
-    record { core = w .core; computing = w .computing .0; requests = w .requests .0; horizon = w .horizon .0 }
+    record {
+      core = w .core;
+      computing = w .computing .0;
+      requests = w .requests .0;
+      horizon = w .horizon .0;
+      start = w .start .0;
+    }
 
 -- the corner at a place of a block's rates and stalls
 abbrev pub cornerAt : List ℕ → List ℕ → ℕ → Corner

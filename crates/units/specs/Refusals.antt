@@ -20,6 +20,7 @@ numberOf Refusal.HorizonOutside = 10
 numberOf Refusal.NoRoom = 11
 numberOf Refusal.NoSpan = 12
 numberOf Refusal.RateAboveBudget = 13
+numberOf Refusal.StartOutside = 14
 numberOf Refusal.FileEnds = 20
 numberOf Refusal.KindNotAllowed = 21
 numberOf Refusal.LengthWrong = 22
@@ -44,7 +45,7 @@ byNumber =
     ∷ Refusal.NoRoom
     ∷ Refusal.NoSpan
     ∷ Refusal.RateAboveBudget
-    ∷ Refusal.CoresOutside
+    ∷ Refusal.StartOutside
     ∷ Refusal.CoresOutside
     ∷ Refusal.CoresOutside
     ∷ Refusal.CoresOutside
@@ -76,6 +77,7 @@ found-by-number Refusal.HorizonOutside = refl
 found-by-number Refusal.NoRoom = refl
 found-by-number Refusal.NoSpan = refl
 found-by-number Refusal.RateAboveBudget = refl
+found-by-number Refusal.StartOutside = refl
 found-by-number Refusal.FileEnds = refl
 found-by-number Refusal.KindNotAllowed = refl
 found-by-number Refusal.LengthWrong = refl
@@ -101,6 +103,7 @@ some-number Refusal.HorizonOutside = lit< tt
 some-number Refusal.NoRoom = lit< tt
 some-number Refusal.NoSpan = lit< tt
 some-number Refusal.RateAboveBudget = lit< tt
+some-number Refusal.StartOutside = lit< tt
 some-number Refusal.FileEnds = lit< tt
 some-number Refusal.KindNotAllowed = lit< tt
 some-number Refusal.LengthWrong = lit< tt

@@ -137,12 +137,14 @@ impl Head {
     pub const MOST_INTERVALS: u8 = 64;
 }
 
-// A workload: the core that it runs on, counted from 1, its computing and its requests there, and the horizon, the last period of interest.
+// A workload: the core that it runs on, counted from 1, its computing and its requests there, the horizon, the last period of interest, and
+// the start, how many periods of the plan are over when it is released; the horizon counts from there.
 pub struct Workload {
     pub core: u8,
     pub computing: Slots,
     pub requests: Requests,
     pub horizon: Periods,
+    pub start: Periods,
 }
 
 impl Workload {
@@ -173,7 +175,8 @@ pub fn wide(number: u16) -> u32
     number as u32
 }
 
-// What a question is refused for, one case for each number of the table in document 01 but 7, which is unused since request 2026-02.
+// What a question is refused for, one case for each number of the table in document 01 but 7, which is unused since request 2026-02; 14 is
+// from request 2026-03.
 pub enum Refusal {
     CoresOutside,
     PerPeriodOutside,
@@ -187,6 +190,7 @@ pub enum Refusal {
     NoRoom,
     NoSpan,
     RateAboveBudget,
+    StartOutside,
     FileEnds,
     KindNotAllowed,
     LengthWrong,
@@ -213,6 +217,7 @@ impl Refusal {
             Refusal::NoRoom => 11,
             Refusal::NoSpan => 12,
             Refusal::RateAboveBudget => 13,
+            Refusal::StartOutside => 14,
             Refusal::FileEnds => 20,
             Refusal::KindNotAllowed => 21,
             Refusal::LengthWrong => 22,

@@ -36,17 +36,18 @@ fn put_placement(line: &mut [u8], answer: PlacementAnswer) -> usize
 fn placement_into(body: &[u8], place: &mut [u32], line: &mut [u8]) -> usize
     ensures { λ r. ⌜ r ≤ length (now (line .exit)) ⌝ }
 {
-    let intervals = byte_at(body, 14) as usize;
-    let lengths = twos_from(body, 15);
-    let start = 15 + 2 * intervals;
-    let count = count_from(body, start);
-    let budgets = twos_from(body, start);
+    let intervals = byte_at(body, 16) as usize;
+    let lengths = twos_from(body, 17);
+    let begin = 17 + 2 * intervals;
+    let count = count_from(body, begin);
+    let budgets = twos_from(body, begin);
     let answer = span::placement(
         head_at(body, 2),
         front_twos(&lengths, intervals),
         front_twos(&budgets, count),
         byte_at(body, 1),
         Requests(four_at(body, 7)),
+        Periods(two_at(body, 13)),
         Periods(two_at(body, 11)),
         place,
     );
@@ -54,15 +55,15 @@ fn placement_into(body: &[u8], place: &mut [u32], line: &mut [u8]) -> usize
     put_fours(line, at, place)
 }
 
-// Cores, core, Q, the mark, requests, W, the room of the place, the count of the lengths, the lengths, and the budgets to the body's end.
+// Cores, core, Q, the mark, requests, W, the start, the room of the place, the count of the lengths, the lengths, and the budgets to the body's end.
 pub fn placement_question(body: &[u8], line: &mut [u8]) -> usize
     ensures { λ r. ⌜ r ≤ length (now (line .exit)) ⌝ }
 {
-    let intervals = byte_at(body, 14) as usize;
-    if !ends_in_twos(body, 15 + 2 * intervals) {
+    let intervals = byte_at(body, 16) as usize;
+    if !ends_in_twos(body, 17 + 2 * intervals) {
         return malformed(line);
     }
-    let room = byte_at(body, 13) as usize;
+    let room = byte_at(body, 15) as usize;
     let mut place = unwritten_fours();
     placement_into(body, lend_fours(&mut place, room), line)
 }
@@ -88,16 +89,17 @@ fn put_span(line: &mut [u8], answer: SpanAnswer) -> usize
 fn span_into(body: &[u8], place: &mut [u32], line: &mut [u8]) -> usize
     ensures { λ r. ⌜ r ≤ length (now (line .exit)) ⌝ }
 {
-    let intervals = byte_at(body, 18) as usize;
-    let lengths = twos_from(body, 19);
-    let start = 19 + 2 * intervals;
-    let count = count_from(body, start);
-    let budgets = twos_from(body, start);
+    let intervals = byte_at(body, 20) as usize;
+    let lengths = twos_from(body, 21);
+    let begin = 21 + 2 * intervals;
+    let count = count_from(body, begin);
+    let budgets = twos_from(body, begin);
     let workload = Workload {
         core: byte_at(body, 1),
         computing: Slots(four_at(body, 7)),
         requests: Requests(four_at(body, 11)),
         horizon: Periods(two_at(body, 15)),
+        start: Periods(two_at(body, 17)),
     };
     let answer = span::span(
         head_at(body, 2),
@@ -110,16 +112,16 @@ fn span_into(body: &[u8], place: &mut [u32], line: &mut [u8]) -> usize
     put_fours(line, at, place)
 }
 
-// Cores, core, Q, the mark, computing, requests, horizon, the room of the place, the count of the lengths, the lengths, and the
+// Cores, core, Q, the mark, computing, requests, horizon, start, the room of the place, the count of the lengths, the lengths, and the
 // budgets to the body's end.
 pub fn span_question(body: &[u8], line: &mut [u8]) -> usize
     ensures { λ r. ⌜ r ≤ length (now (line .exit)) ⌝ }
 {
-    let intervals = byte_at(body, 18) as usize;
-    if !ends_in_twos(body, 19 + 2 * intervals) {
+    let intervals = byte_at(body, 20) as usize;
+    if !ends_in_twos(body, 21 + 2 * intervals) {
         return malformed(line);
     }
-    let room = byte_at(body, 17) as usize;
+    let room = byte_at(body, 19) as usize;
     let mut place = unwritten_fours();
     span_into(body, lend_fours(&mut place, room), line)
 }

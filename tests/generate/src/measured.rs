@@ -6,6 +6,7 @@ use std::path::Path;
 use crate::files;
 use crate::measured_cycles;
 use crate::measured_parked;
+use crate::measured_started;
 use crate::plans::{parts, CorePlan, Plan, MOST_PERIODS, MOST_SLOTS};
 use crate::random::Random;
 use crate::workloads::Workload;
@@ -54,7 +55,10 @@ pub fn write_files(folder: &Path) -> io::Result<()> {
     write("plain.questions".to_string(), plain)?;
     let [parked, unparked] = measured_parked::streams();
     write("parked.questions".to_string(), parked)?;
-    write("unparked.questions".to_string(), unparked)
+    write("unparked.questions".to_string(), unparked)?;
+    let [started, from_there] = measured_started::streams();
+    write("started.questions".to_string(), started)?;
+    write("from-there.questions".to_string(), from_there)
 }
 
 /// A plan of 64 intervals of nearly equal length in which every core has a

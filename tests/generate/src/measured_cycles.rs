@@ -75,6 +75,7 @@ fn one_interval(mark: u8, length: u16, own_budget: u64, slots: u64) -> CorePlan 
     CorePlan {
         plan,
         core: 1,
+        start: 0,
         reach: MOST_PERIODS,
     }
 }

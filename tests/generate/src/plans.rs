@@ -33,8 +33,11 @@ pub struct CorePlan {
     pub plan: Plan,
     /// Counted from 1.
     pub core: u8,
-    /// The longest span and horizon that are asked for: T, or for a repeating
-    /// plan anything up to 65,535.
+    /// The periods of the plan before the workload, fewer than T. Spans and
+    /// horizons count from there.
+    pub start: u64,
+    /// The longest span and horizon that are asked for: T less the start, or
+    /// for a repeating plan anything up to 65,535.
     pub reach: u64,
 }
 
@@ -42,7 +45,21 @@ impl CorePlan {
     /// A plain plan, which reaches to its end.
     pub fn plain(plan: Plan, core: u8) -> Self {
         let reach = plan.total_periods();
-        CorePlan { plan, core, reach }
+        CorePlan {
+            plan,
+            core,
+            start: 0,
+            reach,
+        }
+    }
+
+    /// The same plan for a workload that starts later, by so many periods.
+    pub fn starting(mut self, start: u64) -> Self {
+        self.start = start;
+        if !self.is_repeating() {
+            self.reach = self.total_periods() - start;
+        }
+        self
     }
 
     pub fn is_repeating(&self) -> bool {
@@ -73,18 +90,39 @@ impl CorePlan {
         !self.parked_intervals().is_empty()
     }
 
-    /// The periods of each interval at a span: its length for each full cycle
-    /// and its part of what is left.
+    /// The periods of each interval at a span: those up to its end without
+    /// those before the start.
     pub fn shares(&self, span: u64) -> Vec<u64> {
-        let full_cycles = span / self.total_periods();
-        let mut left = span % self.total_periods();
-        let mut shares = Vec::new();
+        let until_end = self.periods_until(self.start + span).into_iter();
+        let both = until_end.zip(self.periods_until(self.start));
+        both.map(|(until_end, before)| until_end - before).collect()
+    }
+
+    /// The periods of each interval from the plan's beginning on: its length
+    /// for each full cycle and its part of what is left.
+    fn periods_until(&self, end: u64) -> Vec<u64> {
+        let full_cycles = end / self.total_periods();
+        let mut left = end % self.total_periods();
+        let mut periods = Vec::new();
         for &length in &self.plan.lengths {
             let part = left.min(u64::from(length));
-            shares.push(full_cycles * u64::from(length) + part);
+            periods.push(full_cycles * u64::from(length) + part);
             left -= part;
         }
-        shares
+        periods
+    }
+
+    /// The periods before an interval in one cycle.
+    pub fn periods_before(&self, interval: usize) -> u64 {
+        let before = self.plan.lengths[..interval].iter();
+        before.map(|&length| u64::from(length)).sum()
+    }
+
+    /// The interval in which a period of one cycle lies, counted from 0.
+    pub fn interval_of(&self, period: u64) -> usize {
+        let intervals = 1..self.plan.lengths.len();
+        let begun = intervals.filter(|&interval| self.periods_before(interval) <= period);
+        begun.count()
     }
 
     /// The requests that fit into a span.

@@ -5,6 +5,7 @@ use crate::fit::Curves;
 use crate::plans::{self, CorePlan, Limits, Plan, MOST_OF_A_WORKLOAD, MOST_PERIODS};
 use crate::random::Random;
 use crate::refusals::{some_of, spoil_plan};
+use crate::starts;
 use crate::workloads::{self, Workload};
 
 pub const RAW: u8 = 1;
@@ -54,6 +55,7 @@ struct Asked {
     requests: u32,
     /// The horizon, or the given span.
     periods: u16,
+    start: u16,
     room: u8,
 }
 
@@ -63,6 +65,7 @@ impl Asked {
         Asked {
             kind,
             core: seen.core,
+            start: seen.start as u16,
             room: seen.plan.lengths.len() as u8,
             plan: seen.plan,
             rate: 0,
@@ -85,7 +88,7 @@ impl Asked {
                     body.extend(self.computing.to_le_bytes());
                 }
                 body.extend(self.requests.to_le_bytes());
-                body.extend(self.periods.to_le_bytes());
+                body.extend(in_two_bytes(&[self.periods, self.start]));
                 body.extend([self.room, plan.lengths.len() as u8]);
                 body.extend(in_two_bytes(&plan.lengths));
             }
@@ -94,13 +97,14 @@ impl Asked {
         record(self.kind, &body)
     }
 
-    /// The refusals that this kind of question can give, but 12.
+    /// The refusals that this kind of question can give, but 12, in the order
+    /// in which they are judged.
     fn refusals(&self) -> &'static [u8] {
         match self.kind {
             RAW => &[1, 2, 3, 5, 6, 13],
             CORNERS => &[1, 2, 3, 5, 6, 11],
-            PLACEMENT => &[1, 2, 3, 4, 5, 6, 9, 10, 11],
-            _ => &[1, 2, 3, 4, 5, 6, 8, 9, 10, 11],
+            PLACEMENT => &[1, 2, 3, 4, 5, 6, 9, 14, 10, 11],
+            _ => &[1, 2, 3, 4, 5, 6, 8, 9, 14, 10, 11],
         }
     }
 
@@ -115,18 +119,19 @@ impl Asked {
 
     fn spoil(&mut self, random: &mut Random, refusal: u8) {
         let past_limit = MOST_OF_A_WORKLOAD as u32 + 1;
-        let past_total = (self.plan.total_periods() + 1).min(65_535) as u16;
+        let total = self.plan.total_periods();
         match refusal {
             6 => self.core = random.pick(&[0, self.plan.cores.wrapping_add(1), 9, 255]),
             8 => self.computing = random.pick(&[0, past_limit, u32::MAX]),
             9 => self.requests = random.pick(&[past_limit, past_limit, u32::MAX]),
             10 if self.plan.mark != 0 => self.periods = 0,
-            10 => self.periods = random.pick(&[0, past_total, past_total, 65_535]),
+            10 => self.periods = starts::past_end(random, total, self.start),
             11 => self.room = random.pick(&[0, self.room.saturating_sub(1)]),
             13 => {
                 let budget = self.own_budget();
                 self.rate = random.pick(&[budget + 1, budget + 1, budget + 65_536, u32::MAX]);
             }
+            14 => self.start = starts::past(random, total),
             _ => spoil_plan(random, &mut self.plan, refusal),
         }
     }
@@ -225,7 +230,8 @@ fn searchable(random: &mut Random) -> (CorePlan, Workload) {
     };
     let least = random.pick(&[1, 20, 200, 1_000]);
     for _ in 0..200 {
-        let mut seen = draw(random);
+        let drawn = draw(random);
+        let mut seen = starts::some(random, drawn);
         let mut workload = workloads::aimed(random, &seen);
         let placements = workloads::placements(&seen, workload.requests);
         if (least..=MOST_PLACEMENTS).contains(&placements) {
@@ -264,7 +270,8 @@ fn few_requests_going_round(
     limits: &Limits,
     parked_reach: u64,
 ) -> (CorePlan, Workload) {
-    let mut seen = plans::repeating(random, limits, MOST_PERIODS);
+    let drawn = plans::repeating(random, limits, MOST_PERIODS);
+    let mut seen = starts::some(random, drawn);
     if seen.is_parked() {
         seen.reach = parked_reach;
     }
@@ -299,10 +306,11 @@ pub fn for_runs(seed: u64, number: u64) -> Vec<u8> {
 /// A plan and a workload with spans of up to as many periods as a plain plan
 /// within the limits has.
 fn for_whole_runs(random: &mut Random, limits: &Limits, repeating: bool) -> (CorePlan, Workload) {
-    let seen = match repeating {
+    let drawn = match repeating {
         true => plans::repeating(random, limits, limits.periods),
         false => plans::sound(random, limits),
     };
+    let seen = starts::some(random, drawn);
     let mut workload = workloads::just_fitting(random, &seen);
     if random.one_in(3) {
         workload = workloads::aimed(random, &seen);
@@ -311,10 +319,11 @@ fn for_whole_runs(random: &mut Random, limits: &Limits, repeating: bool) -> (Cor
 }
 
 fn many_rounds(random: &mut Random) -> Asked {
-    let seen = match random.one_in(OF_CYCLES_ONE_IN) {
+    let drawn = match random.one_in(OF_CYCLES_ONE_IN) {
         true => plans::many_rounds_of_cycles(random),
         false => plans::many_rounds(random),
     };
+    let seen = starts::early(random, drawn);
     let workload = workloads::of_many_rounds(random, &seen);
     Asked::new(SPAN, seen, workload)
 }
@@ -357,17 +366,20 @@ fn asked(random: &mut Random, kind: u8) -> Asked {
 }
 
 /// Some plans are marked as repeating, which the one-interval questions do not
-/// read.
+/// read, and some have a start, which only the others have.
 fn sound_or_marked(random: &mut Random, kind: u8, limits: &Limits) -> CorePlan {
-    let one_interval = matches!(kind, RAW | CORNERS);
-    if !one_interval && random.one_in(REPEATING_ONE_IN) {
-        return plans::repeating(random, limits, MOST_PERIODS);
+    if matches!(kind, RAW | CORNERS) {
+        let mut seen = plans::sound(random, limits);
+        if random.one_in(MARKED_ONE_IN) {
+            seen.plan.mark = plans::some_mark(random);
+        }
+        return seen;
     }
-    let mut seen = plans::sound(random, limits);
-    if one_interval && random.one_in(MARKED_ONE_IN) {
-        seen.plan.mark = plans::some_mark(random);
-    }
-    seen
+    let drawn = match random.one_in(REPEATING_ONE_IN) {
+        true => plans::repeating(random, limits, MOST_PERIODS),
+        false => plans::sound(random, limits),
+    };
+    starts::some(random, drawn)
 }
 
 /// A rate of 0 to the budget, often at the other cores' budgets or the ends;

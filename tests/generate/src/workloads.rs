@@ -21,64 +21,70 @@ fn workload(seen: &CorePlan, computing: u64, requests: u64, horizon: u64) -> Wor
     }
 }
 
-/// A span of 1 to as far as the plan reaches.
+/// A span of 1 to as far as the plan reaches, from the start.
 pub fn some_span(random: &mut Random, seen: &CorePlan) -> u64 {
     match seen.is_repeating() {
         true => span_of_cycles(random, seen),
-        false => span_in_cycle(random, seen),
+        false => end_in_cycle(random, seen, seen.start) - seen.start,
     }
 }
 
-/// At the end of some cycle or beside it, at a border of some cycle, as far as
-/// can be, at T and one more, or any.
+/// At the end of some cycle or beside it, the first one among them, at a border
+/// of some cycle, as far as can be, at whole cycles from the start, at T and one
+/// more, or any.
 fn span_of_cycles(random: &mut Random, seen: &CorePlan) -> u64 {
-    let total = seen.total_periods();
+    let (start, total) = (seen.start, seen.total_periods());
+    let most_cycles = (start + seen.reach).div_ceil(total);
     let cycles = match random.one_in(2) {
-        true => random.any_size(1, seen.reach / total),
-        false => random.between(1, seen.reach / total),
+        true => random.any_size(1, most_cycles),
+        false => random.between(1, most_cycles),
     };
     let before = (cycles - 1) * total;
-    let span = match random.below(10) {
+    let end = match random.below(11) {
         0 => cycles * total - 1,
         1 => cycles * total,
         2 => cycles * total + 1,
-        3 | 4 => before + span_in_cycle(random, seen),
-        5 => seen.reach,
-        6 => total,
-        7 => total + 1,
-        8 => random.between(1, seen.reach),
-        _ => random.any_size(1, seen.reach),
+        3 | 4 if cycles == 1 => end_in_cycle(random, seen, start),
+        3 | 4 => before + end_in_cycle(random, seen, 0),
+        5 => start + seen.reach,
+        6 => start + total,
+        7 => start + total + 1,
+        8 => start + cycles * total,
+        9 => start + random.between(1, seen.reach),
+        _ => start + random.any_size(1, seen.reach),
     };
-    span.clamp(1, seen.reach)
+    end.saturating_sub(start).clamp(1, seen.reach)
 }
 
-/// A span of 1 to T: the ends, the borders of intervals and beside them, or any.
-fn span_in_cycle(random: &mut Random, seen: &CorePlan) -> u64 {
+/// The end of a span within one cycle, later than some period of it: the first
+/// and the last there can be, the borders of intervals and beside them, or any.
+fn end_in_cycle(random: &mut Random, seen: &CorePlan, from: u64) -> u64 {
     let total = seen.total_periods();
-    let border = some_border(random, seen);
-    let span = match random.below(7) {
-        0 => 1,
+    let border = some_border(random, seen, from);
+    let end = match random.below(7) {
+        0 => from + 1,
         1 => total,
         2 => border,
         3 => border + 1,
         4 => border.max(1) - 1,
-        5 => random.between(1, total),
-        _ => random.any_size(1, total),
+        5 => random.between(from + 1, total),
+        _ => random.any_size(from + 1, total),
     };
-    span.clamp(1, total)
+    end.clamp(from + 1, total)
 }
 
 /// The periods before the end of an interval, or before the begin of one in
-/// which the core is parked.
-fn some_border(random: &mut Random, seen: &CorePlan) -> u64 {
-    let lengths = &seen.plan.lengths;
-    let mut ended = random.between(1, lengths.len() as u64) as usize;
-    let parked = seen.parked_intervals();
+/// which the core is parked; not of those that end before some period.
+fn some_border(random: &mut Random, seen: &CorePlan, from: u64) -> u64 {
+    let first = seen.interval_of(from);
+    let intervals = seen.plan.lengths.len();
+    let mut ended = random.between(first as u64 + 1, intervals as u64) as usize;
+    let mut parked = seen.parked_intervals();
+    parked.retain(|&interval| interval >= first);
     if !parked.is_empty() && random.one_in(2) {
         ended = random.pick(&parked) + random.below(2) as usize;
     }
-    let before = lengths[..ended].iter();
-    before.map(|&length| u64::from(length)).sum()
+    seen.periods_before(ended)
 }
 
 /// Requests for a span: none, all that fit and one more, whole corners in
@@ -168,12 +174,12 @@ fn of_any_kind(random: &mut Random, seen: &CorePlan) -> Workload {
     }
 }
 
-/// T, or any number of whole cycles.
+/// To the plan's end, in any of its cycles, or any number of whole cycles.
 fn far_span(random: &mut Random, seen: &CorePlan) -> u64 {
     let total = seen.total_periods();
     match seen.is_repeating() {
-        true => total * random.any_size(1, seen.reach / total),
-        false => total,
+        true => total * random.any_size(1, seen.reach / total) - random.pick(&[0, seen.start]),
+        false => seen.reach,
     }
 }
 

@@ -44,6 +44,13 @@ impl Examined {
         self.searched += usize::from(searched);
         self.reached += usize::from(reached);
     }
+
+    fn print(&self, kind: &str) {
+        println!(
+            "{} spans {kind}: {} searched, {} reached",
+            self.tasks, self.searched, self.reached
+        );
+    }
 }
 
 #[derive(Default)]
@@ -59,6 +66,10 @@ struct Tally {
     past_cycle: Examined,
     /// Those with parked periods in the span.
     parked: Examined,
+    /// Those with a start above 0, and of these the ones on repeating plans
+    /// whose span goes on after the first cycle's end.
+    started: Examined,
+    started_past_end: Examined,
     /// Runs that compute in a parked period, and runs with one of stall alone.
     parked_computing: usize,
     parked_stall: usize,
@@ -82,6 +93,12 @@ impl Tally {
         }
         if task.parked_periods() > 0 {
             self.parked.add(searched, reached);
+        }
+        if task.start > 0 {
+            self.started.add(searched, reached);
+            if task.span > task.first_cycle() {
+                self.started_past_end.add(searched, reached);
+            }
         }
         self.cycles = self.cycles.max(task.span / task.total_periods());
         // Where the greedy run lasts as long, the stall makes no difference.
@@ -121,9 +138,10 @@ impl Tally {
     }
 
     fn print(&self) {
-        let columns = "question | cores | Q | T | repeats | computing | requests | span | parked";
+        let columns =
+            "question | cores | Q | T | repeats | start | computing | requests | span | parked";
         println!("| {columns} | {} |", MAKERS.join(" | "));
-        println!("|{}", "---|".repeat(9 + MAKERS.len()));
+        println!("|{}", "---|".repeat(10 + MAKERS.len()));
         for row in &self.rows {
             println!("{row}");
         }
@@ -142,18 +160,16 @@ impl Tally {
             self.all.reached,
             self.all.tasks
         );
-        println!(
-            "{} spans past one cycle, {} of them searched, {} reached; {} full cycles at most",
-            self.past_cycle.tasks, self.past_cycle.searched, self.past_cycle.reached, self.cycles
-        );
-        println!(
-            "{} spans with parked periods: {} searched, {} reached",
-            self.parked.tasks, self.parked.searched, self.parked.reached
-        );
+        self.past_cycle.print("past one cycle");
+        println!("{} full cycles in a span at most", self.cycles);
+        self.parked.print("with parked periods");
         println!(
             "in parked periods {} runs compute, and {} runs only stall",
             self.parked_computing, self.parked_stall
         );
+        self.started.print("with a start above 0");
+        self.started_past_end
+            .print("with a start above 0 that end in a later cycle");
         println!(
             "{} runs too long, {} full with work left, {} not lawful",
             self.too_long, self.unfinished, self.unlawful
@@ -184,9 +200,10 @@ fn row(number: usize, task: &Task, longest: &Longest) -> String {
     let periods = task.total_periods();
     let repeats = if task.repeating { "yes" } else { "no" };
     let mut row = format!(
-        "| {number} | {} | {} | {periods} | {repeats} | {} | {} | {} | {} |",
+        "| {number} | {} | {} | {periods} | {repeats} | {} | {} | {} | {} | {} |",
         task.cores,
         task.slots,
+        task.start,
         task.computing,
         task.requests,
         task.span,

@@ -22,7 +22,8 @@ pub struct Search<'a> {
 impl<'a> Search<'a> {
     /// Looks as far as one run longer than the span would show.
     pub fn new(task: &'a Task) -> Option<Self> {
-        let budgets = (0..task.total_periods()).map(|period| task.budget(period));
+        let met = task.most_periods().min(task.total_periods());
+        let budgets = (0..met).map(|period| task.budget(period));
         let most = budgets.max().unwrap_or(0).min(task.requests);
         let periods = periods_to_fill(task);
         let steps = (periods as u64).checked_mul(task.requests + 1)?;

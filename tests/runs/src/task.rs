@@ -12,6 +12,8 @@ pub struct Task {
     pub repeating: bool,
     pub computing: u64,
     pub requests: u64,
+    /// The periods of the plan before the run's first.
+    pub start: usize,
     /// The answered span, in periods.
     pub span: usize,
     /// The answered placement: the requests of each interval.
@@ -51,21 +53,22 @@ impl Task {
         let cores = number(0, 1)? as usize;
         let own = number(1, 1)? as usize - 1;
         let slots = number(2, 4)?;
-        let intervals = number(18, 1)? as usize;
+        let intervals = number(20, 1)? as usize;
         let mut task = Task {
             cores: cores as u8,
             slots,
             repeating: number(6, 1)? != 0,
             computing: number(7, 4)?,
             requests: number(11, 4)?,
+            start: number(17, 2)? as usize,
             span,
             placement,
             raw: Vec::new(),
             interval_of: Vec::new(),
         };
         for interval in 0..intervals {
-            let length = number(19 + 2 * interval, 2)? as usize;
-            let first = 19 + 2 * intervals + 2 * interval * cores;
+            let length = number(21 + 2 * interval, 2)? as usize;
+            let first = 21 + 2 * intervals + 2 * interval * cores;
             let budgets = (0..cores).map(|core| number(first + 2 * core, 2));
             let budgets = budgets.collect::<Option<Vec<u64>>>()?;
             task.raw.push(raw_stalls(slots, &budgets, own));
@@ -83,14 +86,20 @@ impl Task {
     pub fn most_periods(&self) -> usize {
         match self.repeating {
             true => MOST_PERIODS,
-            false => self.total_periods(),
+            false => self.first_cycle(),
         }
     }
 
-    /// The interval in which a period lies; the plan's first is period 0. The
-    /// period after the last of a cycle is the first of the next.
+    /// The periods from the start to the plan's end, or to that of the first
+    /// cycle.
+    pub fn first_cycle(&self) -> usize {
+        self.total_periods() - self.start
+    }
+
+    /// The interval in which a period of a run lies; the period of the start is
+    /// period 0. The period after the last of a cycle is the first of the next.
     pub fn interval_of(&self, period: usize) -> usize {
-        self.interval_of[period % self.interval_of.len()]
+        self.interval_of[(self.start + period) % self.interval_of.len()]
     }
 
     /// The periods of the span in which the core is parked.

@@ -1,6 +1,6 @@
 //! Placement and span by a plain search over all placements. Nothing here uses
-//! the slope order, the bending rates, a division of the span by the cycle or
-//! the sequence's claim to be the span.
+//! the slope order, the bending rates, the shortened first cycle, a division of
+//! the span by the cycle or the sequence's claim to be the span.
 //! `None` stands for a plan with too many placements to search, or with a
 //! common divisor too large to keep.
 
@@ -91,10 +91,10 @@ impl Cycle {
     }
 
     /// The periods of each of so many intervals in a span, counted one by one
-    /// round the cycle.
-    pub fn shares(&self, intervals: usize, span: u64) -> Vec<u64> {
+    /// from the start round the cycle.
+    pub fn shares(&self, intervals: usize, start: u16, span: u64) -> Vec<u64> {
         let mut shares = vec![0; intervals];
-        let round = self.0.iter().cycle();
+        let round = self.0.iter().cycle().skip(usize::from(start));
         for (_, &interval) in (0..span).zip(round) {
             shares[interval] += 1;
         }
@@ -105,13 +105,14 @@ impl Cycle {
 /// All that stays the same while the span changes.
 struct Search {
     cycle: Cycle,
+    start: u16,
     envelopes: Vec<Envelope>,
     requests: u64,
     divisor: u128,
 }
 
 impl Search {
-    fn new(seen: &CorePlan, requests: u32) -> Option<Self> {
+    fn new(seen: &CorePlan, requests: u32, start: u16) -> Option<Self> {
         let intervals = 0..seen.intervals();
         let envelopes: Vec<Envelope> = intervals
             .map(|interval| Envelope::new(seen, interval))
@@ -128,6 +129,7 @@ impl Search {
         }
         Some(Search {
             cycle: Cycle::new(seen.plan.lengths),
+            start,
             envelopes,
             requests: u64::from(requests),
             divisor,
@@ -136,7 +138,8 @@ impl Search {
 
     /// The best of all placements at `span`.
     fn best(&self, span: u64) -> Option<Best> {
-        let shares = self.cycle.shares(self.envelopes.len(), span);
+        let intervals = self.envelopes.len();
+        let shares = self.cycle.shares(intervals, self.start, span);
         let most: Vec<u64> = self
             .envelopes
             .iter()
@@ -228,7 +231,8 @@ pub fn placement(
         Ok(seen) => seen,
         Err(refusal) => return Some(Err(refusal)),
     };
-    let best = Search::new(&seen, question.requests)?.best(u64::from(question.span))?;
+    let search = Search::new(&seen, question.requests, question.start)?;
+    let best = search.best(u64::from(question.span))?;
     write_placement(&best, place);
     Some(Ok(best.rounded_up()))
 }
@@ -239,7 +243,7 @@ pub fn span(question: &span::Question, place: &mut [u32]) -> Option<Result<span:
         Ok(seen) => seen,
         Err(refusal) => return Some(Err(refusal)),
     };
-    let search = Search::new(&seen, question.requests)?;
+    let search = Search::new(&seen, question.requests, question.start)?;
     let slots_per_period = u64::from(seen.plan.slots_per_period);
     for periods in 1..=u64::from(question.horizon) {
         let spare = (periods * slots_per_period).checked_sub(question.unstalled());

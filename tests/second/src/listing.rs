@@ -43,6 +43,7 @@ fn answers(file: &PlanFile) -> String {
     lines
 }
 
+/// The answer to one workload. A file has no place for a start.
 fn answer(file: &PlanFile, workload: usize) -> String {
     let question = span::Question {
         plan: file.plan(),
@@ -50,6 +51,7 @@ fn answer(file: &PlanFile, workload: usize) -> String {
         computing: file.computing[workload],
         requests: file.requests[workload],
         horizon: file.horizons[workload],
+        start: 0,
     };
     let mut placement = vec![0; file.lengths.len()];
     match question.answer(&mut placement) {

@@ -8,6 +8,7 @@ mod placement;
 mod plan;
 mod planfile;
 mod questions;
+mod shares;
 mod span;
 #[cfg(test)]
 mod tests;

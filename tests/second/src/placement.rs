@@ -1,7 +1,9 @@
-//! Placement: the greatest total stall at a given span, by slope.
+//! Placement: the greatest total stall at a given span, by slope. The span
+//! counts from the start.
 
 use crate::curve::corners;
 use crate::plan::{demand, CorePlan, GivenPlan, Refusal, MOST_OF_A_WORKLOAD};
+use crate::shares::Part;
 
 /// One segment of one interval's envelope, for one period.
 struct Segment {
@@ -15,9 +17,7 @@ struct Segment {
 /// The segments of all intervals, steepest first; of two equally steep ones
 /// the earlier interval's comes first.
 pub struct Steepest<'a> {
-    lengths: &'a [u16],
-    /// T, the length of one cycle.
-    cycle: u32,
+    part: Part<'a>,
     /// The raw stall at 0 requests in one period of each interval.
     raw_at_0: Vec<u64>,
     segments: Vec<Segment>,
@@ -26,7 +26,7 @@ pub struct Steepest<'a> {
 }
 
 impl<'a> Steepest<'a> {
-    pub fn new(seen: &CorePlan<'a>) -> Self {
+    pub fn new(seen: &CorePlan<'a>, start: u16) -> Self {
         let mut raw_at_0 = Vec::new();
         let mut segments = Vec::new();
         for interval in 0..seen.intervals() {
@@ -43,27 +43,11 @@ impl<'a> Steepest<'a> {
         // The sort is stable, so equal slopes stay in the order of intervals.
         segments.sort_by(|one, other| (other.rise * one.run).cmp(&(one.rise * other.run)));
         Steepest {
-            lengths: seen.plan.lengths,
-            cycle: seen.plan.total_periods,
+            part: Part::new(seen.plan.lengths, start),
             raw_at_0,
             segments,
             shares: vec![0; seen.intervals()],
         }
-    }
-
-    /// Sets the share of each interval at a span and gives all of them: its
-    /// length once for each full cycle, and its part of the last one (004,
-    /// equation 1). A span of at most T has at most one cycle, so a plain
-    /// plan's shares are found by the same rule.
-    pub fn divide(&mut self, span: u32) -> &[u64] {
-        let full_cycles = u64::from(span / self.cycle);
-        let mut left = u64::from(span % self.cycle);
-        for (share, &length) in self.shares.iter_mut().zip(self.lengths) {
-            let part = left.min(u64::from(length));
-            *share = full_cycles * u64::from(length) + part;
-            left -= part;
-        }
-        &self.shares
     }
 
     /// Places as many of the requests as fit, steepest segments first, and
@@ -72,7 +56,7 @@ impl<'a> Steepest<'a> {
     /// segments are filled in their own order; only the last segment filled can
     /// be filled in part, so there is one fraction at most.
     pub fn fill(&mut self, span: u32, requests: u32, placement: &mut [u32]) -> u64 {
-        self.divide(span);
+        self.part.divide(span, &mut self.shares);
         placement.fill(0);
         let mut left = u64::from(requests);
         let without_requests = self.shares.iter().zip(&self.raw_at_0);
@@ -97,14 +81,15 @@ pub struct Question<'a> {
     pub core: u8,
     pub requests: u32,
     pub span: u16,
+    pub start: u16,
 }
 
 impl<'a> Question<'a> {
-    /// Judges 1 to 6, 9, 10 and 11.
+    /// Judges 1 to 6, 9, 14, 10 and 11.
     pub fn judge(&self, room: usize) -> Result<CorePlan<'a>, Refusal> {
         let seen = self.plan.judge()?.seen_from(self.core)?;
         demand(self.requests <= MOST_OF_A_WORKLOAD, Refusal::Requests)?;
-        seen.plan.judge_periods(self.span)?;
+        seen.plan.judge_periods(self.start, self.span)?;
         demand(room >= seen.intervals(), Refusal::NoRoom)?;
         Ok(seen)
     }
@@ -113,7 +98,7 @@ impl<'a> Question<'a> {
     pub fn answer(&self, place: &mut [u32]) -> Result<u64, Refusal> {
         let seen = self.judge(place.len())?;
         let placement = &mut place[..seen.intervals()];
-        let stall = Steepest::new(&seen).fill(u32::from(self.span), self.requests, placement);
-        Ok(stall)
+        let mut steepest = Steepest::new(&seen, self.start);
+        Ok(steepest.fill(u32::from(self.span), self.requests, placement))
     }
 }

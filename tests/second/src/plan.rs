@@ -1,7 +1,9 @@
-//! Units and bounds: a plan of budgets, and the refusals 1 to 6 judged on it.
+//! Units and bounds: a plan of budgets, and the refusals 1 to 6, 14 and 10
+//! judged on it.
 //! A plan may be marked as repeating (request 2026-01): it then starts over
 //! each time its last period has ended. A core may have a budget of 0 in some
-//! intervals (request 2026-02): it is parked there.
+//! intervals (request 2026-02): it is parked there. A workload may start after
+//! the plan's first period (request 2026-03).
 
 pub const MOST_CORES: u8 = 8;
 pub const MOST_SLOTS_PER_PERIOD: u32 = 65_535;
@@ -26,6 +28,7 @@ pub enum Refusal {
     NoRoom = 11,
     NoSpan = 12,
     RateAboveBudget = 13,
+    Start = 14,
     FileEnds = 20,
     RecordKind = 21,
     RecordLength = 22,
@@ -133,13 +136,16 @@ pub struct Plan<'a> {
 }
 
 impl<'a> Plan<'a> {
-    /// Judges 10 for a horizon or a given span: 1 to T for a plain plan, 1 to
-    /// 65,535 for a repeating one, whatever its T is.
-    pub fn judge_periods(&self, periods: u16) -> Result<(), Refusal> {
+    /// Judges 14 for a start, which is below T, then 10 for a horizon or a given
+    /// span, which counts from there: 1 to T less the start for a plain plan, 1
+    /// to 65,535 for a repeating one, whatever its T and the start are.
+    pub fn judge_periods(&self, start: u16, periods: u16) -> Result<(), Refusal> {
+        let start = u32::from(start);
+        demand(start < self.total_periods, Refusal::Start)?;
         let most = if self.repeating {
             MOST_PERIODS
         } else {
-            self.total_periods
+            self.total_periods - start
         };
         demand((1..=most).contains(&u32::from(periods)), Refusal::Horizon)
     }

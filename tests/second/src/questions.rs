@@ -4,10 +4,10 @@
 //!
 //! 1. raw: cores 1, core 1, Q 4, mark 1, rate 4, budgets 2 each.
 //! 2. corners: cores 1, core 1, Q 4, mark 1, room 1, budgets 2 each.
-//! 3. placement: cores 1, core 1, Q 4, mark 1, requests 4, W 2, room 1,
+//! 3. placement: cores 1, core 1, Q 4, mark 1, requests 4, W 2, start 2, room 1,
 //!    intervals 1, lengths 2 each, budgets 2 each.
 //! 4. span: cores 1, core 1, Q 4, mark 1, computing 4, requests 4, horizon 2,
-//!    room 1, intervals 1, lengths 2 each, budgets 2 each.
+//!    start 2, room 1, intervals 1, lengths 2 each, budgets 2 each.
 //! 5. read: the rooms of six places 2 each, the file.
 //! 6. write: cores 1, Q 4, mark 1, room 2, intervals 1, the counts of budgets
 //!    and of the four lists 2 each, lengths 2 each, budgets 2 each, cores 1
@@ -145,7 +145,7 @@ impl<'a> Body<'a> {
 }
 
 /// The first word, the refusal's number or 0, and the results.
-fn start<const COUNT: usize>(word: &str, answer: Result<[u64; COUNT], Refusal>) -> String {
+fn begun<const COUNT: usize>(word: &str, answer: Result<[u64; COUNT], Refusal>) -> String {
     let refusal = answer.err().map_or(0, Refusal::number);
     let mut line = format!("{word} {refusal}");
     for result in answer.unwrap_or([0; COUNT]) {
@@ -171,7 +171,7 @@ fn raw_line(body: &mut Body) -> Option<String> {
     let rate = body.four()?;
     let budgets = body.rest_of_two()?;
     let answer = curve::raw_question(head, &budgets, core, rate);
-    Some(start("raw", answer.map(|stall| [u64::from(stall)])))
+    Some(begun("raw", answer.map(|stall| [u64::from(stall)])))
 }
 
 fn corners_line(body: &mut Body) -> Option<String> {
@@ -179,7 +179,7 @@ fn corners_line(body: &mut Body) -> Option<String> {
     let mut place = lent(usize::from(body.one()?));
     let budgets = body.rest_of_two()?;
     let answer = curve::corners_question(head, &budgets, core, &mut place);
-    let mut line = start("corners", answer.map(|count| [count as u64]));
+    let mut line = begun("corners", answer.map(|count| [count as u64]));
     add_place(&mut line, &place);
     Some(line)
 }
@@ -188,6 +188,7 @@ fn placement_line(method: Method, body: &mut Body) -> Option<String> {
     let (head, core) = body.head_and_core()?;
     let requests = body.four()?;
     let span = body.two()?;
+    let start = body.two()?;
     let mut place = lent(usize::from(body.one()?));
     let intervals = usize::from(body.one()?);
     let lengths = body.list_of_two(intervals)?;
@@ -202,6 +203,7 @@ fn placement_line(method: Method, body: &mut Body) -> Option<String> {
         core,
         requests,
         span,
+        start,
     };
     let answer = match method {
         Method::BySlope => question.answer(&mut place),
@@ -210,7 +212,7 @@ fn placement_line(method: Method, body: &mut Body) -> Option<String> {
             None => return Some("skip".to_string()),
         },
     };
-    let mut line = start("placement", answer.map(|stall| [stall]));
+    let mut line = begun("placement", answer.map(|stall| [stall]));
     add_place(&mut line, &place);
     Some(line)
 }
@@ -220,6 +222,7 @@ fn span_line(method: Method, body: &mut Body) -> Option<String> {
     let computing = body.four()?;
     let requests = body.four()?;
     let horizon = body.two()?;
+    let start = body.two()?;
     let mut place = lent(usize::from(body.one()?));
     let intervals = usize::from(body.one()?);
     let lengths = body.list_of_two(intervals)?;
@@ -234,6 +237,7 @@ fn span_line(method: Method, body: &mut Body) -> Option<String> {
         computing,
         requests,
         horizon,
+        start,
     };
     Some(answer_span(method, &question, &mut place))
 }
@@ -248,7 +252,7 @@ fn answer_span(method: Method, question: &span::Question, place: &mut [u32]) -> 
     };
     let results =
         |found: span::Answer| [u64::from(found.span), found.stall, u64::from(found.rounds)];
-    let mut line = start("span", answer.map(results));
+    let mut line = begun("span", answer.map(results));
     add_place(&mut line, place);
     line
 }
@@ -359,7 +363,7 @@ fn write_line(body: &mut Body) -> Option<String> {
         write_front(&mut place, &bytes);
         Ok([bytes.len() as u64])
     });
-    let mut line = start("write", answer);
+    let mut line = begun("write", answer);
     add_place(&mut line, &place);
     Some(line)
 }

@@ -1,4 +1,5 @@
-//! Span: the sequence of terms up to the horizon (004, equation 11).
+//! Span: the sequence of terms up to the horizon (004, equation 11), which
+//! counts from the start as they do.
 
 use crate::placement::Steepest;
 use crate::plan::{demand, CorePlan, GivenPlan, Refusal, MOST_OF_A_WORKLOAD};
@@ -10,6 +11,7 @@ pub struct Question<'a> {
     pub computing: u32,
     pub requests: u32,
     pub horizon: u16,
+    pub start: u16,
 }
 
 /// The results beside the placement.
@@ -21,13 +23,13 @@ pub struct Answer {
 }
 
 impl<'a> Question<'a> {
-    /// Judges 1 to 6 and 8 to 11.
+    /// Judges 1 to 6, 8, 9, 14, 10 and 11.
     pub fn judge(&self, room: usize) -> Result<CorePlan<'a>, Refusal> {
         let seen = self.plan.judge()?.seen_from(self.core)?;
         let computing = 1..=MOST_OF_A_WORKLOAD;
         demand(computing.contains(&self.computing), Refusal::Computing)?;
         demand(self.requests <= MOST_OF_A_WORKLOAD, Refusal::Requests)?;
-        seen.plan.judge_periods(self.horizon)?;
+        seen.plan.judge_periods(self.start, self.horizon)?;
         demand(room >= seen.intervals(), Refusal::NoRoom)?;
         Ok(seen)
     }
@@ -49,7 +51,7 @@ impl<'a> Question<'a> {
     /// Rounding the stall up to whole slots first leaves the next term the
     /// same, since all else in it is whole.
     fn search(&self, seen: &CorePlan, placement: &mut [u32]) -> Result<Answer, Refusal> {
-        let mut steepest = Steepest::new(seen);
+        let mut steepest = Steepest::new(seen, self.start);
         let slots_per_period = u64::from(seen.plan.slots_per_period);
         let mut term = self.unstalled().div_ceil(slots_per_period);
         let mut rounds = 0;

@@ -1,14 +1,18 @@
 //! The numbers 01 works by hand, the listing, and what follows from them; then
 //! the numbers worked for plans that repeat (request 2026-01) and for a core
-//! that is parked (2026-02).
+//! that is parked (2026-02). Those for tasks that start later (2026-03) are in
+//! `started`.
+
+mod started;
 
 use crate::brute::Cycle;
 use crate::curve::{corners, corners_question, raw_question, Corner};
 use crate::listing::listing;
-use crate::placement::{self, Steepest};
+use crate::placement;
 use crate::plan::{GivenPlan, Head, Refusal};
 use crate::planfile::{self, PlanFile};
 use crate::questions::{line, Method};
+use crate::shares::Part;
 use crate::span::{self, Answer};
 
 const BUDGETS: [u16; 4] = [2, 2, 5, 7];
@@ -16,10 +20,6 @@ const PLAIN: Head = Head {
     cores: 4,
     slots_per_period: 16,
     repeating: false,
-};
-const REPEATING: Head = Head {
-    repeating: true,
-    ..PLAIN
 };
 
 fn raw_curve(core: u8) -> Vec<u32> {
@@ -58,6 +58,7 @@ fn asked(core: u8, computing: u32, requests: u32, horizon: u16) -> Result<Answer
         computing,
         requests,
         horizon,
+        start: 0,
     };
     let mut place = [7];
     let answer = question.answer(&mut place);
@@ -99,6 +100,7 @@ fn span_p9() {
         computing: 10,
         requests: 22,
         horizon: 20,
+        start: 0,
     };
     let answer = question.answer(&mut [7]).unwrap();
     assert_eq!((answer.span, answer.stall), (2, 0));
@@ -141,6 +143,7 @@ fn example_of_004_section_6() {
         core: 3,
         requests: 25,
         span: 6,
+        start: 0,
     };
     let mut place = [7; 4];
     assert_eq!(question.answer(&mut place), Ok(58));
@@ -230,10 +233,12 @@ fn both_ways(kind: u8, body: &[u8]) -> String {
     by_slope
 }
 
-/// A plan with Q = 16, and the core under analysis.
+/// A plan with Q = 16, the core under analysis and the start.
+#[derive(Clone, Copy)]
 struct Asked<'a> {
     mark: u8,
     core: u8,
+    start: u16,
     lengths: &'a [u16],
     budgets: &'a [u16],
 }
@@ -255,7 +260,7 @@ impl Asked<'_> {
         let cores = self.budgets.len() / self.lengths.len();
         let mut body = vec![cores as u8, self.core, 16, 0, 0, 0, self.mark];
         body.extend(values);
-        body.extend(periods.to_le_bytes());
+        body.extend(in_bytes(&[periods, self.start]));
         body.extend([self.lengths.len() as u8; 2]);
         body.extend(in_bytes(self.lengths));
         body.extend(in_bytes(self.budgets));
@@ -268,6 +273,7 @@ fn listed(mark: u8) -> Asked<'static> {
     Asked {
         mark,
         core: 3,
+        start: 0,
         lengths: &LISTED_LENGTHS,
         budgets: &LISTED_BUDGETS,
     }
@@ -304,22 +310,37 @@ fn repeating_placements() {
     }
 }
 
+/// The shares of a span that both ways to them give.
+fn both_shares(lengths: &[u16], start: u16, span: u16) -> Vec<u64> {
+    let mut shares = vec![7; lengths.len()];
+    Part::new(lengths, start).divide(u32::from(span), &mut shares);
+    let counted = Cycle::new(lengths).shares(lengths.len(), start, u64::from(span));
+    assert_eq!(counted, shares);
+    shares
+}
+
+/// The rule of request 2026-01: the length for each full cycle, and the part of
+/// the last one.
+fn shares_without_start(lengths: &[u16], span: u16) -> Vec<u64> {
+    let cycle: u16 = lengths.iter().sum();
+    let mut left = span % cycle;
+    let mut shares = Vec::new();
+    for &length in lengths {
+        let part = left.min(length);
+        shares.push(u64::from(span / cycle * length + part));
+        left -= part;
+    }
+    shares
+}
+
 #[test]
 fn repeating_shares() {
-    let given = GivenPlan {
-        head: REPEATING,
-        lengths: &LISTED_LENGTHS,
-        budgets: &LISTED_BUDGETS,
-    };
-    let seen = given.judge().ok().unwrap().seen_from(3).ok().unwrap();
-    let mut steepest = Steepest::new(&seen);
-    let cycle = Cycle::new(&LISTED_LENGTHS);
     for (span, shares) in [(10, [2, 8]), (11, [3, 8]), (12, [3, 9])] {
-        assert_eq!(steepest.divide(span), shares);
-        assert_eq!(cycle.shares(2, u64::from(span)), shares);
+        assert_eq!(both_shares(&LISTED_LENGTHS, 0, span), shares);
     }
     for span in (1..=2_000).chain(65_500..=65_535) {
-        assert_eq!(steepest.divide(span), cycle.shares(2, u64::from(span)));
+        let shares = both_shares(&LISTED_LENGTHS, 0, span);
+        assert_eq!(shares, shares_without_start(&LISTED_LENGTHS, span));
     }
 }
 
@@ -395,6 +416,7 @@ fn parked(mark: u8) -> Asked<'static> {
     Asked {
         mark,
         core: 1,
+        start: 0,
         lengths: &PARKED_LENGTHS,
         budgets: &PARKED_BUDGETS,
     }
@@ -450,6 +472,7 @@ fn parked_everywhere() {
     let plan = Asked {
         mark: 0,
         core: 1,
+        start: 0,
         lengths: &[5],
         budgets: &[0, 16],
     };

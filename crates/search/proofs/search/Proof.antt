@@ -18,21 +18,21 @@ use Rattle.search.proofs.search.Statement.{statement}
 use Rattle.search.proofs.search.Tie as tie
 
 abbrev Inv-loop : tie.InvT-loop
-Inv-loop picks count bases head cycle lengths workload term₀ rounds₀ term rounds =
+Inv-loop picks count bases head begin lengths workload term₀ rounds₀ term rounds =
     TermReached
-    (termAfter (head .«per_period» .0) bases (sharesGiven lengths) (between 0 count picks) (workloadOf workload))
+    (termAfter (head .«per_period» .0) bases (sharesGiven (begin .repeating) lengths (begin .start .0)) (between 0 count picks) (workloadOf workload))
     (holding (head .«per_period» .0) (work (workloadOf workload)))
     (workload .horizon .0)
     rounds
     (term .0)
 
 abbrev μ-loop : tie.MeasureT-loop
-μ-loop picks count bases head cycle lengths workload term₀ rounds₀ term rounds = workload .horizon .0 + 1 - term .0
+μ-loop picks count bases head begin lengths workload term₀ rounds₀ term rounds = workload .horizon .0 + 1 - term .0
 
 -- the term after t
 abbrev nextOf : tie.Start Inv-loop μ-loop → ℕ → ℕ
 nextOf c =
-    termAfter (c .args .head .«per_period» .0) (now (c .args .bases)) (sharesGiven (now (c .args .lengths))) (between 0 (c .args .count) (now (c .args .picks))) (workloadOf (c .args .workload))
+    termAfter (c .args .head .«per_period» .0) (now (c .args .bases)) (sharesGiven (c .args .begin .repeating) (now (c .args .lengths)) (c .args .begin .start .0)) (between 0 (c .args .count) (now (c .args .picks))) (workloadOf (c .args .workload))
 
 -- the first term
 abbrev firstOf : tie.Start Inv-loop μ-loop → ℕ
@@ -66,7 +66,7 @@ next-made c =
     let start = startOf turn in
     let shared = c .before .before .shares-of in
     let same =
-    stall-in-array (now (start .args .bases)) (sharesGiven (now (start .args .lengths)) (turn .loop .term .0))
+    stall-in-array (now (start .args .bases)) (sharesGiven (start .args .begin .repeating) (now (start .args .lengths)) (start .args .begin .start .0) (turn .loop .term .0))
     (between 0 (start .args .count) (now (start .args .picks))) (start .args .workload .requests .0) (shared .result) (shared .ensures)
     in
     subst (PeriodsMade (nextOf start (turn .loop .term .0)))

@@ -1,14 +1,16 @@
-use mathlib.Core.Path.{_≡_}
-use Prim.Native.Nat.{_-_}
+use mathlib.Core.Path.{_≡_, subst}
+use mathlib.Core.List.{List}
+use Prim.Native.Nat.{ℕ, _-_}
 use denote.Ref.{now}
 use lib.ListN.{length, take}
 use borrow.Author.Needs.{needs}
 use Rattle.meaning.specs.Plan.{Plan, periods}
+use Rattle.meaning.specs.Placement.{sharesFrom}
 use Rattle.meaning.specs.Refusals.{placementRefusal}
 use Rattle.placement_laws.specs.PlacementQuestion.{SoundPlacement, sound-placement}
-use Rattle.plan_laws.specs.SoundPlan.{some-periods}
 use Rattle.units.specs.Given.{planOf}
-use Rattle.span.specs.Prepared.{PreparedFor, prepared-front, prepared-walkable, prepared-fits}
+use Rattle.shares.specs.Shares.{Reads}
+use Rattle.span.specs.Prepared.{PreparedFor, given-shares, prepared-front, prepared-walkable, prepared-fits}
 use Rattle.span.specs.Answered.{placement-refused, placement-answered}
 use Rattle.span.proofs.placement.Statement.{statement}
 use Rattle.span.proofs.placement.Tie as tie
@@ -22,14 +24,14 @@ startOf c = c .before .before .before .before
 -- the question is not refused, and the plan has so many periods
 judged : (c : tie.After-cycle)
     → let start = startOf (c .before .before) in
-    (placementRefusal (planAt start) (start .args .core) (start .args .requests .0) (start .args .periods .0) (length (now (start .args .place))) ≡ 0)
+    (placementRefusal (planAt start) (start .args .core) (start .args .requests .0) (start .args .start .0) (start .args .periods .0) (length (now (start .args .place))) ≡ 0)
     × (c .cycle .given .0 .0 .0 ≡ periods (planAt start))
 judged c = rw (c .cycle .given .1) at (c .before .before .judged-placement .ensures)
 
 sound : (c : tie.After-cycle)
     → let start = startOf (c .before .before) in
-    SoundPlacement (planAt start) (start .args .core) (start .args .requests .0) (start .args .periods .0) (length (now (start .args .place)))
-sound c = sound-placement _ _ _ _ _ (judged c .0)
+    SoundPlacement (planAt start) (start .args .core) (start .args .requests .0) (start .args .start .0) (start .args .periods .0) (length (now (start .args .place)))
+sound c = sound-placement _ _ _ _ _ _ (judged c .0)
 
 judged-placement-requires : tie.Need-judged-placement-requires
 judged-placement-requires c κs = search needs
@@ -40,23 +42,41 @@ enum-known-why c = search needs
 enum-known-cycle : tie.Need-enum-known-cycle
 enum-known-cycle c = search needs
 
-prepare-requires : tie.Need-prepare-requires
-prepare-requires c κs = (sound (c .before) .plan, sound (c .before) .analysed)
+begin-at-requires : tie.Need-begin-at-requires
+begin-at-requires c κs = (judged (c .before) .1, sound (c .before) .from .below)
+
+prepare-from-requires : tie.Need-prepare-from-requires
+prepare-from-requires c κs =
+    let s = sound (c .before .before) in
+    (s .from .plan, s .analysed, c .begin-at .ensures .2, c .begin-at .ensures .0)
 
 shares-of-requires : tie.Need-shares-of-requires
 shares-of-requires c κs =
-    let told = c .before .before .before in
-    let s = sound told in
-    (s .plan .fewIntervals, (judged told .1, some-periods (planAt (startOf (told .before .before))) (s .plan)))
+    let begun = c .before .before in
+    (sound (begun .before .before) .from .plan .fewIntervals, begun .begin-at .ensures .2)
 
 -- what is prepared, with the bases that are lent
-prepared : (c : tie.After-prepare)
-    → let start = startOf (c .before .before .before .before) in
-    let made = c .prepare .result in
-    PreparedFor (planAt start) (start .args .core) (made .picks) (made .count) (take (made .«parked_until» - 0) (made .bases))
+prepared : (c : tie.After-prepare-from)
+    → let start = startOf (c .before .before .before .before .before) in
+    let made = c .prepare-from .result in
+    PreparedFor (planAt start) (start .args .core) (start .args .start .0) (made .picks) (made .count) (take (made .«parked_until» - 0) (made .bases))
 prepared c =
-    let made = c .prepare .result in
-    prepared-front _ _ (made .picks) (made .count) (made .bases) (made .«parked_until») (c .prepare .ensures .0)
+    let start = startOf (c .before .before .before .before .before) in
+    let made = c .prepare-from .result in
+    let bases = take (made .«parked_until» - 0) (made .bases) in
+    subst (λ (n : ℕ). PreparedFor (planAt start) (start .args .core) n (made .picks) (made .count) bases) (c .before .begin-at .ensures .1)
+    (prepared-front _ _ _ (made .picks) (made .count) (made .bases) (made .«parked_until») (c .prepare-from .ensures .0))
+
+-- the shares from the start
+shared-out : (c : tie.After-shares-of)
+    → let start = startOf (c .before .before .before .before .before .before .before) in
+    Reads (c .shares-of .result) (sharesFrom (planAt start) (start .args .start .0) (start .args .periods .0))
+shared-out c =
+    let begun = c .before .before .before in
+    let start = startOf (begun .before .before .before .before) in
+    subst (λ (share : ℕ → List ℕ). Reads (c .shares-of .result) (share (start .args .periods .0)))
+    (given-shares (planAt start) (begun .begin-at .result) (start .args .start .0) (begun .begin-at .ensures .0) (begun .begin-at .ensures .1))
+    (c .shares-of .ensures)
 
 sub-answer-with : tie.Need-sub-answer-with
 sub-answer-with c = search needs
@@ -65,29 +85,29 @@ part-answer-with-start : tie.Need-part-answer-with-start
 part-answer-with-start c = search needs
 
 part-answer-with-end : tie.Need-part-answer-with-end
-part-answer-with-end c = search (needs, c .before .before .before .before .before .prepare .ensures .1)
+part-answer-with-end c = search (needs, c .before .before .before .before .before .prepare-from .ensures .1)
 
 answer-with-requires : tie.Need-answer-with-requires
 answer-with-requires c κs =
     let shared = c .before .before .before .before .before .before in
     let call = shared .before .before in
-    let told = call .before .before in
+    let told = call .before .before .before in
     let start = startOf (told .before .before) in
     let s = sound told in
-    let made = call .prepare .result in
+    let made = call .prepare-from .result in
     let bases = take (made .«parked_until» - 0) (made .bases) in (
-      prepared-walkable (planAt start) (s .plan) (made .picks) (made .count) bases (start .args .core) (prepared call),
+      prepared-walkable (planAt start) (start .args .start .0) (s .from) (made .picks) (made .count) bases (start .args .core) (prepared call),
       prepared call .orders .inside,
       s .enoughRoom,
-      prepared-fits (planAt start) (s .plan) (made .picks) (made .count) bases (start .args .core) (prepared call)
-          (start .args .requests .0) (start .args .periods .0) (shared .shares-of .result) (shared .shares-of .ensures) (s .inLimit),
+      prepared-fits (planAt start) (start .args .start .0) (s .from) (made .picks) (made .count) bases (start .args .core) (prepared call)
+          (start .args .requests .0) (start .args .periods .0) (shared .shares-of .result) (shared-out shared) (s .inLimit),
     )
 
 returns : tie.Need-returns
 returns c =
     let found = c .before in
     let start = startOf (found .before .before) in
-    placement-refused (planAt start) (start .args .core) (start .args .requests .0) (start .args .periods .0) (now (start .args .place))
+    placement-refused (planAt start) (start .args .core) (start .args .requests .0) (start .args .start .0) (start .args .periods .0) (now (start .args .place))
     (found .why .given .0 .0)
     (rw (found .why .given .1) at (found .before .before .judged-placement .ensures))
 
@@ -99,12 +119,12 @@ returns-2 c =
     let answer = c .before .before in
     let shared = answer .before .before .before .before .before .before .before in
     let call = shared .before .before in
-    let told = call .before .before in
+    let told = call .before .before .before in
     let start = startOf (told .before .before) in
-    let made = call .prepare .result in
-    placement-answered (planAt start) (start .args .core) (start .args .requests .0) (start .args .periods .0) (now (start .args .place))
+    let made = call .prepare-from .result in
+    placement-answered (planAt start) (start .args .core) (start .args .requests .0) (start .args .start .0) (start .args .periods .0) (now (start .args .place))
     (made .picks) (made .count) (take (made .«parked_until» - 0) (made .bases)) (shared .shares-of .result) (answer .answer-with .result .0)
-    (answer .answer-with .last .1 .1 .1 .1 .1 .1 .0) (judged told .0) (prepared call) (shared .shares-of .ensures)
+    (answer .answer-with .last .1 .1 .1 .1 .1 .1 .0) (judged told .0) (prepared call) (shared-out shared)
     (answer .answer-with .ensures)
 
 pub placement-spec : {M : Type 1} → statement M
@@ -114,7 +134,8 @@ placement-spec =
     judged-placement-requires
     enum-known-why
     enum-known-cycle
-    prepare-requires
+    begin-at-requires
+    prepare-from-requires
     shares-of-requires
     sub-answer-with
     part-answer-with-start

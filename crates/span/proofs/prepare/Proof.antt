@@ -1,7 +1,7 @@
-use mathlib.Core.Path.{_≡_, sym, subst, refl, _∙_}
+use mathlib.Core.Path.{_≡_, sym, subst, _∙_}
 use mathlib.Core.List.{List, []}
 use Prim.Native.Nat.{ℕ, suc, _+_, _-_, _*_, _≤_, _<_}
-use native.Mathlib.Nat.{le-trans, mul-le-mul-right, add-sub-cancel-left, not-suc-le-zero, min-le-left}
+use native.Mathlib.Nat.{le-trans, mul-le-mul-right, add-sub-cancel-left, min-le-left}
 use native.Mathlib.Omega.{arith}
 use denote.Ref.{now}
 use lib.ListN.{length, getD, take, drop, length-take}
@@ -13,17 +13,19 @@ use Rattle.curve.specs.Figures.{HoldsEnvelope}
 use Rattle.curve.specs.Found.{holds-base}
 use Rattle.units.specs.Given.{planOf}
 use Rattle.segments.specs.Blocks.{curveAt}
-use Rattle.span.specs.Corners.{Cornered, Based, hold-more, sound-interval, cornered-curves, cornered-concave}
+use Rattle.span.specs.Corners.{Cornered, Based, none-cornered, none-based, cornered-more, based-more, sound-interval, cornered-curves, cornered-idle, cornered-concave}
 use Rattle.span.specs.Prepared.{until-reads}
 use Rattle.span.proofs.prepare.Statement.{statement}
 use Rattle.span.proofs.prepare.Tie as tie
 
 abbrev Inv-loop : tie.InvT-loop
-Inv-loop head lengths budgets core m intervals blocks₀ bases₀ i₀ blocks bases i =
-    (i ≤ length lengths) × Cornered (planOf head lengths budgets) core i blocks × Based (planOf head lengths budgets) core i bases
+Inv-loop head lengths budgets core first m intervals blocks₀ bases₀ i₀ blocks bases i =
+    (i ≤ length lengths)
+    × Cornered (planOf head lengths budgets) core first i blocks
+    × Based (planOf head lengths budgets) core first i bases
 
 abbrev μ-loop : tie.MeasureT-loop
-μ-loop head lengths budgets core m intervals blocks₀ bases₀ i₀ blocks bases i = length lengths - i
+μ-loop head lengths budgets core first m intervals blocks₀ bases₀ i₀ blocks bases i = length lengths - i
 
 abbrev planAt : tie.Start Inv-loop μ-loop → Plan
 planAt c = planOf (c .args .head) (now (c .args .lengths)) (now (c .args .budgets))
@@ -37,8 +39,8 @@ in-rows c =
     omega (arith, mul-le-mul-right (start .args .head .cores) (c .loop-test .taken), start .pre .0 .count)
 
 -- the interval is one of 64
-few : (c : tie.In-loop Inv-loop μ-loop) → c .before .loop .i < 64
-few c = omega (arith, c .before .before .before .before .before .pre .0 .fewIntervals)
+few : (c : tie.In-loop Inv-loop μ-loop) → c .before .before .before .before .before .args .first + c .before .loop .i < 64
+few c = omega (arith, c .before .before .before .before .before .pre .2, c .loop-test .taken)
 
 -- the part of the budgets that is lent is the interval's row
 row-here : (c : tie.In-loop Inv-loop μ-loop)
@@ -53,18 +55,22 @@ row-here c =
 cast-m : tie.Need-cast-m Inv-loop μ-loop
 cast-m c = search needs
 
+add-intervals : tie.Need-add-intervals Inv-loop μ-loop
+add-intervals c = omega (arith, c .before .before .before .pre .2)
+
 loop-holds : tie.Need-loop-holds Inv-loop μ-loop
-loop-holds c = (
-  search needs,
-  record { long = refl; each = λ k lt. absurd (not-suc-le-zero lt) },
-  record { long = refl; each = λ k lt. absurd (not-suc-le-zero lt) },
-)
+loop-holds c =
+    let start = c .before .before .before in (
+      search needs,
+      none-cornered (planAt start) (start .args .core) (start .args .first) (omega (arith, start .pre .2)),
+      none-based (planAt start) (start .args .core) (start .args .first),
+    )
 
-mul-start : tie.Need-mul-start Inv-loop μ-loop
-mul-start c = omega (arith, in-rows c)
+mul-from : tie.Need-mul-from Inv-loop μ-loop
+mul-from c = omega (arith, in-rows c)
 
-add-end : tie.Need-add-end Inv-loop μ-loop
-add-end c = omega (arith, in-rows c)
+add-to : tie.Need-add-to Inv-loop μ-loop
+add-to c = omega (arith, in-rows c)
 
 mul-interval-corners : tie.Need-mul-interval-corners Inv-loop μ-loop
 mul-interval-corners c = omega (arith, in-rows c)
@@ -88,14 +94,20 @@ interval-corners-requires c κs =
 element-copy-out-bases : tie.Need-element-copy-out-bases Inv-loop μ-loop
 element-copy-out-bases c = search needs
 
+add-bases : tie.Need-add-bases Inv-loop μ-loop
+add-bases c = omega (arith, few (c .before .before .before))
+
 mul-bases : tie.Need-mul-bases Inv-loop μ-loop
-mul-bases c = search needs
+mul-bases c = omega (arith, few (c .before .before .before))
 
 array-write-bases : tie.Need-array-write-bases Inv-loop μ-loop
 array-write-bases c = search (needs, few (c .before .before .before))
 
+add-blocks : tie.Need-add-blocks Inv-loop μ-loop
+add-blocks c = omega (arith, few (c .before .before .before))
+
 mul-blocks : tie.Need-mul-blocks Inv-loop μ-loop
-mul-blocks c = search needs
+mul-blocks c = omega (arith, few (c .before .before .before))
 
 array-set-from-blocks : tie.Need-array-set-from-blocks Inv-loop μ-loop
 array-set-from-blocks c =
@@ -120,8 +132,9 @@ loop-again c =
     let held : HoldsEnvelope slots (start .args .core) row block =
     subst (λ (r : List ℕ). HoldsEnvelope slots (start .args .core) r block) (row-here turn) (call .interval-corners .ensures) in (
       omega arith,
-      hold-more _ _ (state .i) (state .blocks) block (few turn) held (state .inv .1),
-      hold-more _ _ (state .i) (state .bases) _ (few turn) (holds-base slots (start .args .core) row block held)
+      cornered-more (planAt start) (start .args .core) (start .args .first) (state .i) (state .blocks) block (few turn) held (state .inv .1),
+      based-more (planAt start) (start .args .core) (start .args .first) (state .i) (state .bases) _ (few turn)
+          (holds-base slots (start .args .core) row block held)
           (state .inv .2),
     )
 
@@ -130,24 +143,25 @@ all-done : (c : tie.After-loop Inv-loop μ-loop)
     → let start = c .before .before .before .before .before in
     let n = length (now (start .args .lengths)) in
     let state = c .before .loop in
-    Cornered (planAt start) (start .args .core) n (state .blocks) × Based (planAt start) (start .args .core) n (state .bases)
+    Cornered (planAt start) (start .args .core) (start .args .first) n (state .blocks)
+    × Based (planAt start) (start .args .core) (start .args .first) n (state .bases)
 all-done c =
     let start = c .before .before .before .before .before in
     let state = c .before .loop in
     let done : state .i ≡ length (now (start .args .lengths)) = omega arith in (
-      subst (λ (n : ℕ). Cornered (planAt start) (start .args .core) n (state .blocks)) done (state .inv .1),
-      subst (λ (n : ℕ). Based (planAt start) (start .args .core) n (state .bases)) done (state .inv .2),
+      subst (λ (n : ℕ). Cornered (planAt start) (start .args .core) (start .args .first) n (state .blocks)) done (state .inv .1),
+      subst (λ (n : ℕ). Based (planAt start) (start .args .core) (start .args .first) n (state .bases)) done (state .inv .2),
     )
 
 order-requires : tie.Need-order-requires Inv-loop μ-loop
 order-requires c κs =
     let start = c .before .before .before .before .before in (
-      start .pre .0 .fewIntervals,
-      cornered-concave (planAt start) (start .args .core) (start .pre .0) (start .pre .1) (c .before .loop .blocks) (all-done c .0),
+      start .pre .2,
+      cornered-concave (planAt start) (start .args .core) (start .pre .0) (start .pre .1) (start .args .first) (c .before .loop .blocks) (all-done c .0),
     )
 
 parked-until-requires : tie.Need-parked-until-requires Inv-loop μ-loop
-parked-until-requires c κs = c .before .before .before .before .before .before .before .before .pre .0 .fewIntervals
+parked-until-requires c κs = c .before .before .before .before .before .before .before .before .pre .2
 
 returns : tie.Need-returns Inv-loop μ-loop
 returns c =
@@ -155,19 +169,20 @@ returns c =
     let done = call .before in
     let start = done .before .before .before .before .before in
     let state = done .before .loop in
-    let n = length (now (start .args .lengths)) in
+    let first = start .args .first in
+    let n = first + length (now (start .args .lengths)) in
     let r = c .parked-until .result in
     let until = c .parked-until .ensures .0 in
-    let few = start .pre .0 .fewIntervals in
     let long = all-done done .1 .long in (
       record {
         curve = curveAt (state .blocks);
-        curves = cornered-curves (planAt start) (start .args .core) (start .pre .0) (start .pre .1) (state .blocks) (all-done done .0);
+        curves = cornered-curves (planAt start) (start .args .core) (start .pre .0) (start .pre .1) first (state .blocks) (all-done done .0);
+        idle = cornered-idle (planAt start) (start .args .core) (start .pre .0) (start .pre .1) first (state .blocks) (all-done done .0);
         orders = call .order .ensures;
-        each = λ i h. until-reads n r (state .bases) until i h ∙ all-done done .1 .each i h;
+        each = λ i from h. until-reads n r (state .bases) until i h ∙ all-done done .1 .each i h from;
         few = rw length-take (le-trans (min-le-left r (length (state .bases))) (until .few));
       },
-      omega (arith, until .few, few, long),
+      omega (arith, until .few, start .pre .2, long),
       c .parked-until .ensures .1,
     )
 
@@ -178,17 +193,20 @@ prepare-spec =
     Inv-loop
     μ-loop
     cast-m
+    add-intervals
     loop-holds
-    mul-start
-    add-end
+    mul-from
+    add-to
     mul-interval-corners
     sub-interval-corners
     part-interval-corners-start
     part-interval-corners-end
     interval-corners-requires
     element-copy-out-bases
+    add-bases
     mul-bases
     array-write-bases
+    add-blocks
     mul-blocks
     array-set-from-blocks
     add-i

@@ -45,7 +45,7 @@ returns-2 c =
     let start = found .before .before .before .before .before in
     let here = sound found in
     placement-judged (planAt start) (found .found .given .0 .0 .0) (start .args .room) (here .1) (c .asked .result)
-    (start .args .core) (start .args .requests .0) (start .args .periods .0) (here .0) (c .asked .ensures)
+    (start .args .core) (start .args .requests .0) (start .args .start .0) (start .args .periods .0) (here .0) (c .asked .ensures)
 
 pub judged-placement-spec : {M : Type 1} → statement M
 judged-placement-spec =
