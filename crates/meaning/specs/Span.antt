@@ -16,7 +16,7 @@ StallAt p w n f = GreatestStall p w.core w.requests (shares_from p w.start n) f
 abbrev pub PlacedAt : Plan → Workload → ℕ → List ℕ → ℕ → Type 0
 PlacedAt p w n = AnsweredAt p w.core w.requests w.start n
 
--- W holds the work: E + requests + S(W) is at most W-as-Q
+-- W holds the work: E + requests + S(W) is at most W·Q
 pub record Holds (p : Plan) (w : Workload) (n : ℕ) : Type 0 where
   pub stall : Fraction
   pub greatest : StallAt p w n stall
