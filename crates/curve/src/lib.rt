@@ -1,4 +1,6 @@
 // The raw stall of one interval at a rate, and the corners of its curve.
+#![tactic(auto)]
+
 ghost use Rattle.std.specs.Prelude.{◌≡◌, [], ◌∷◌, ◌≤◌, ◌<◌, ◌^◌, min, length};
 ghost use Rattle.meaning.specs.Plan.{sum_of, budget_of};
 ghost use Rattle.meaning.specs.Curve.{raw, sum_of_smaller};
@@ -11,7 +13,7 @@ ghost use Rattle.curve.specs.Step.{point_of, Small, Ordered, stack_of, sags, las
 use units::{Block, Requests, Slots, wide};
 
 // A corner: a whole rate, and the stall there.
-#[derive(Drop)]
+#[derive(Clone, Copy)]
 struct Corner {
     rate: Requests,
     stall: Slots,

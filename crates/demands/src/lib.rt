@@ -1,1 +1,2 @@
 // What the user asked to be certain of. The theorems stand in specs/.
+#![tactic(auto)]

@@ -1,4 +1,6 @@
 // The two questions on one interval: its raw stall at r requests, and the corners of its curve.
+#![tactic(auto)]
+
 ghost use Rattle.std.specs.Prelude.{◌≤◌};
 ghost use Rattle.meaning.specs.Promises.{RawPromise, CornersPromise};
 ghost use Rattle.interval.specs.Figures.{raw_figures, corners_figures};
@@ -9,14 +11,14 @@ use judge::Judgement;
 use units::{Block, Head, Refusal, Requests, Slots};
 
 // The answer to "raw stall at r".
-#[derive(Drop)]
+#[derive(Clone, Copy)]
 pub enum RawAnswer {
     Stall(Slots),
     Refused(Refusal),
 }
 
 // The answer to "corners for one interval".
-#[derive(Drop)]
+#[derive(Clone, Copy)]
 pub enum CornersAnswer {
     Count(u8),
     Refused(Refusal),

@@ -1,4 +1,6 @@
 // The plan and the core of a question, judged: refusals 1 to 6 in document 01's order.
+#![tactic(auto)]
+
 ghost use Rattle.std.specs.Prelude.{◌≡◌, ◌*◌, ◌≤◌, length};
 ghost use Rattle.units.specs.Given.{plan_of};
 ghost use Rattle.judge.specs.Judged.{Judged, bounds_refusal, IntervalJudged, PlanJudged, CoreJudged};
@@ -8,7 +10,7 @@ ghost use Rattle.meaning.specs.Refusals.{outside, intervals_refusal};
 use units::{Head, MadePeriods, MadeSlots, Periods, Refusal, Slots, wide};
 
 // What a plan is found to be: sound, with all its periods together, or refused.
-#[derive(Drop)]
+#[derive(Clone, Copy)]
 pub enum Judgement {
     Sound(Periods),
     Refused(Refusal),

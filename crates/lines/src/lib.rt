@@ -1,4 +1,6 @@
 // The lines of a file's listing: line n, from 0 to the last, of a file that was read.
+#![tactic(auto)]
+
 ghost use Rattle.std.specs.Prelude.{◌≡◌, ◌+◌, ◌≤◌, ◌<◌, length};
 ghost use Rattle.meaning.specs.Plan.{most_intervals};
 ghost use Rattle.meaning.specs.PlanFile.{Reading, read_file};

@@ -1,4 +1,6 @@
 // The program's listing, line by line: each line's text is written from the front of a lent place.
+#![tactic(auto)]
+
 ghost use Rattle.std.specs.Prelude.{◌≡◌, ◌+◌, ◌≤◌, length};
 ghost use Rattle.meaning.specs.Plan.{sum_of, most_intervals};
 ghost use Rattle.meaning.specs.Listing.{refused_line, end_line, file_refused_line};
@@ -17,7 +19,7 @@ pub const ROOM: usize = 1_024;
 const MOST_NUMBERS: usize = Head::MOST_INTERVALS as usize;
 
 // What a line gives: the length of its text, or that there is no room for it.
-#[derive(Drop)]
+#[derive(Clone, Copy)]
 pub enum Line {
     Length(usize),
     NoRoom,

@@ -1,5 +1,7 @@
 // The numbers that document 01 and the requests of document 02 work by hand, answered by the library. P1 to P10 and the requests' numbers
 // are proved too (crates/demands).
+#![tactic(auto)]
+
 use interval::{CornersAnswer, RawAnswer};
 use libc::STDOUT_FILENO;
 use tell::{say, tell, tell_placement, tell_rates, tell_refused, tell_span};

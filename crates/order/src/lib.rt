@@ -1,4 +1,6 @@
 // The order of filling: the segments of all intervals by falling slope.
+#![tactic(auto)]
+
 ghost use Rattle.std.specs.Prelude.{◌≡◌, ◌+◌, ◌≤◌, ◌<◌, min, length};
 ghost use Rattle.placement_laws.specs.OrderMerged.{not_steeper};
 ghost use Rattle.segments.specs.Blocks.{curve_at, Curves};
@@ -10,7 +12,7 @@ use segments::{crossed, list, rise_of, run_of};
 use units::Block;
 
 // The segments of all intervals in the order of filling: the first count of the places.
-#[derive(Drop)]
+#[derive(Clone, Copy)]
 pub struct Ordered {
     pub picks: [u64; 512],
     pub count: usize,

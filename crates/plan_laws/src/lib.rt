@@ -1,1 +1,2 @@
 // Theorems alone: they stand in specs/, and there is no code.
+#![tactic(auto)]

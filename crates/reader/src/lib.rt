@@ -1,4 +1,6 @@
 // A plan file read: judged whole, and its values filled into lent places.
+#![tactic(auto)]
+
 ghost use Rattle.meaning.specs.Promises.{ReadPromise};
 ghost use Rattle.reader.specs.Reading.{read_figures, places_of};
 
@@ -10,7 +12,7 @@ mod filling; // filling.rt: the values of a judged file filled into lent places
 mod passing; // passing.rt: a whole file judged with no store
 
 // What a sound file holds, beside the values in the lent places.
-#[derive(Drop)]
+#[derive(Clone, Copy)]
 pub struct Contents {
     pub head: Head,
     pub intervals: usize,
@@ -18,7 +20,7 @@ pub struct Contents {
 }
 
 // The answer to "read a plan file": what it holds, or a refusal with the offset of the record at fault.
-#[derive(Drop)]
+#[derive(Clone, Copy)]
 pub enum ReadAnswer {
     Sound(Contents),
     Refused(Refusal, usize),

@@ -1,11 +1,13 @@
 // One record of a plan file: its kind, the numbers in it, its values, and what it is refused for.
+#![tactic(auto)]
+
 pub mod bytes; // bytes.rt: numbers of several bytes
 pub mod faults; // faults.rt: what a record is refused for
 pub mod lists; // lists.rt: lists of workload values
 pub mod values; // values.rt: what stands in a record
 
 // A kind of record: its number, and the least and the most bytes of its body, an even number of them.
-#[derive(Drop)]
+#[derive(Clone, Copy)]
 pub struct Kind {
     pub number: u16,
     pub least: u16,

@@ -1,4 +1,6 @@
 // The search over 004's terms, for bases and for segments that are in the order of filling.
+#![tactic(auto)]
+
 ghost use Rattle.std.specs.Prelude.{◌≡◌, ◌+◌, ◌≤◌, length};
 ghost use Rattle.meaning.specs.Plan.{most_per_period, most_intervals};
 ghost use Rattle.meaning.specs.Span.{work};
@@ -15,7 +17,7 @@ use shares::Beginning;
 use units::{Head, MadePeriods, MadeSlots, Periods, Slots, Workload};
 
 // What the search ends with: the span and the rounds, or none up to the horizon.
-#[derive(Drop)]
+#[derive(Clone, Copy)]
 pub enum Ending {
     Span { span: Periods, rounds: u32 },
     NoSpan,

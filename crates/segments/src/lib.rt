@@ -1,4 +1,6 @@
 // The segments of the curves, each packed into one number, and those of all intervals one after another.
+#![tactic(auto)]
+
 ghost use Rattle.std.specs.Prelude.{◌≡◌, ◌+◌, ◌-◌, ◌*◌, ◌≤◌, ◌<◌, length, get_or};
 ghost use Rattle.segments.specs.Blocks.{curve_of, curve_at, Curves, Segments};
 ghost use Rattle.segments.specs.Packed.{pick_of};

@@ -1,4 +1,6 @@
 // The shares of the intervals of a plan at W from a start.
+#![tactic(auto)]
+
 ghost use Rattle.std.specs.Prelude.{◌≡◌, cond, ◌-◌, ◌≤◌, ◌<◌, min, length, get_or};
 ghost use Rattle.meaning.specs.Plan.{most_intervals, sum_of};
 ghost use Rattle.shares.specs.Part.{part_of, Begins};
@@ -8,7 +10,7 @@ use units::Periods;
 
 // Where the part of a plan begins that the analysis goes on with: the mark of a plan that starts over, the periods of one cycle, the start,
 // the interval that it falls in, counted from 0, and what it leaves of this interval.
-#[derive(Drop)]
+#[derive(Clone, Copy)]
 pub struct Beginning {
     pub repeating: bool,
     pub cycle: Periods,

@@ -1,4 +1,6 @@
 // The two questions of a whole plan: placement and stall at a given W, and span.
+#![tactic(auto)]
+
 ghost use Rattle.std.specs.Prelude.{◌≡◌, ◌+◌, ◌≤◌, length, take};
 ghost use Rattle.meaning.specs.Plan.{most_intervals, most_work};
 ghost use Rattle.meaning.specs.Promises.{PlacementPromise, SpanPromise};
@@ -16,14 +18,14 @@ use shares::Beginning;
 use units::{Block, Head, MadeSlots, Periods, Refusal, Requests, Slots, Workload};
 
 // The answer to "placement and stall at a given W".
-#[derive(Drop)]
+#[derive(Clone, Copy)]
 pub enum PlacementAnswer {
     Stall(Slots),
     Refused(Refusal),
 }
 
 // The answer to "span".
-#[derive(Drop)]
+#[derive(Clone, Copy)]
 pub enum SpanAnswer {
     Found {
         span: Periods,
@@ -36,7 +38,7 @@ pub enum SpanAnswer {
 // What is found once for a plan, a core and a beginning: the segments of all intervals that can be met, in the order of filling, in the
 // first `count` places, and the base of each of them, its stall at 0 requests: Q where the core is parked, else 0. Bases are 0 past the
 // first `parked_until`.
-#[derive(Drop)]
+#[derive(Clone, Copy)]
 struct Prepared {
     picks: [u64; 512],
     count: usize,

@@ -1,4 +1,6 @@
 // The program `spans`: one plan file from standard input, and its listing on standard output, each line in one call.
+#![tactic(auto)]
+
 ghost use Rattle.std.specs.Prelude.{◌≤◌, ◌≡◌, length};
 ghost use Rattle.io.specs.Counts.{IsPrefixLen};
 ghost use Rattle.listing.specs.Promise.{room};

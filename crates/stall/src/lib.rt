@@ -1,4 +1,6 @@
 // Greatest stall and the answered placement, for bases, shares and an order of filling that are given.
+#![tactic(auto)]
+
 ghost use Rattle.std.specs.Prelude.{◌≡◌, ◌++◌, ◌+◌, ◌*◌, ◌≤◌, ◌<◌, length, get_or, drop, set, replicate};
 ghost use Rattle.units.specs.Units.{slots_of};
 ghost use Rattle.meaning.specs.Fraction.{round_up};

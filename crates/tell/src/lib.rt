@@ -1,4 +1,6 @@
 // Answers told as text: words, numbers after a space, and the answers to questions on whole plans.
+#![tactic(auto)]
+
 use libc::STDOUT_FILENO;
 use span::{PlacementAnswer, SpanAnswer};
 use units::{Head, Periods, Refusal, Workload, wide};

@@ -1,4 +1,6 @@
 // Text put into a lent place from an index on: words, and numbers in decimal. The rest of the place is kept.
+#![tactic(auto)]
+
 ghost use Rattle.std.specs.Prelude.{◌≡◌, [], ◌∷◌, ◌+◌, ◌*◌, ◌≤◌, length};
 ghost use Rattle.meaning.specs.Listing.{decimal, spaced};
 ghost use Rattle.text.specs.Put.{Put};

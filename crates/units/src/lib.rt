@@ -1,37 +1,39 @@
 // The three units of the analysis, the values that several crates hand on, and the refusals. A count of slots never stands where a count
 // of periods is wanted.
+#![tactic(auto)]
+
 ghost use Rattle.std.specs.Prelude.{◌≡◌, ◌+◌, ◌*◌, ◌≤◌};
 ghost use Rattle.units.specs.Units.{slots_of, per_period_of, periods_of, requests_of, periods_holding};
 ghost use Rattle.units.specs.Refusals.{number_of};
 
 // Slots: each is one worst-case memory transaction long.
-#[derive(Drop)]
+#[derive(Clone, Copy)]
 pub struct Slots(pub u32);
 
 // Regulation periods.
-#[derive(Drop)]
+#[derive(Clone, Copy)]
 pub struct Periods(pub u16);
 
 // Requests: each is one memory transaction.
-#[derive(Drop)]
+#[derive(Clone, Copy)]
 pub struct Requests(pub u32);
 
 // What a checked maker of slots gives.
-#[derive(Drop)]
+#[derive(Clone, Copy)]
 pub enum MadeSlots {
     Within(Slots),
     Outside,
 }
 
 // What a checked maker of periods gives.
-#[derive(Drop)]
+#[derive(Clone, Copy)]
 pub enum MadePeriods {
     Within(Periods),
     Outside,
 }
 
 // What a checked maker of requests gives.
-#[derive(Drop)]
+#[derive(Clone, Copy)]
 pub enum MadeRequests {
     Within(Requests),
     Outside,
@@ -128,7 +130,7 @@ impl Requests {
 }
 
 // The head of a plan: its cores, Q, the slots of each of its periods, and the mark of a plan that starts over each cycle.
-#[derive(Drop)]
+#[derive(Clone, Copy)]
 pub struct Head {
     pub cores: u8,
     pub per_period: Slots,
@@ -145,7 +147,7 @@ impl Head {
 
 // A workload: the core that it runs on, counted from 1, its computing and its requests there, the horizon, the last period of interest, and
 // the start, how many periods of the plan are over when it is released; the horizon counts from there.
-#[derive(Drop)]
+#[derive(Clone, Copy)]
 pub struct Workload {
     pub core: u8,
     pub computing: Slots,
@@ -160,7 +162,7 @@ impl Workload {
 }
 
 // The corners of one interval in a fixed block of nine, with a count; places past the count are 0.
-#[derive(Drop)]
+#[derive(Clone, Copy)]
 pub struct Block {
     pub rates: [u16; 9],
     pub stalls: [u16; 9],
@@ -185,7 +187,7 @@ pub fn wide(number: u16) -> u32
 
 // What a question is refused for, one case for each number of the table in document 01 but 7, which is unused since request 2026-02; 14 is
 // from request 2026-03.
-#[derive(Drop)]
+#[derive(Clone, Copy)]
 pub enum Refusal {
     CoresOutside,
     PerPeriodOutside,

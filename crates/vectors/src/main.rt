@@ -3,6 +3,8 @@
 // A record of standard input is its kind, the length of its body in two bytes, and its body. A record of no known kind, with a body
 // that is no question of its kind, or with more numbers than a fixed place holds (`vectors_text`, places.rt) is answered `malformed`. A stream that
 // ends inside a record ends the answers.
+#![tactic(auto)]
+
 ghost use Rattle.std.specs.Prelude.{◌≡◌, ◌≤◌, length};
 
 use vectors_files::{read_question, write_question};

@@ -1,4 +1,6 @@
 // Questions on plan files: one read, and one written.
+#![tactic(auto)]
+
 ghost use Rattle.std.specs.Prelude.{◌≤◌, length};
 
 use reader::ReadAnswer;

@@ -1,4 +1,6 @@
 // The text of `vectors`: numbers out of a question's body, and an answer put into a line.
+#![tactic(auto)]
+
 pub mod body; // body.rt: numbers out of a record's body
 pub mod line; // line.rt: an answer put into a line
 pub mod places; // places.rt: places that are lent, and fronts of them

@@ -1,4 +1,6 @@
 // The two questions of a plan, judged: refusals 1 to 6, 8, 9, 14, 10 and 11, in document 01's order with 14 directly before 10.
+#![tactic(auto)]
+
 ghost use Rattle.std.specs.Prelude.{◌≡◌};
 ghost use Rattle.meaning.specs.Plan.{span_limit};
 ghost use Rattle.units.specs.Given.{plan_of, workload_of};

@@ -1,4 +1,6 @@
 // A plan file written: its length first, then each record stored into a lent place.
+#![tactic(auto)]
+
 ghost use Rattle.meaning.specs.Promises.{WritePromise};
 ghost use Rattle.record.specs.Given.{file_given};
 ghost use Rattle.writer.specs.Writing.{write_figures};
@@ -13,7 +15,7 @@ mod lists; // lists.rt: what the lists of a plan and its workloads come to
 mod storing; // storing.rt: each record stored
 
 // The answer to "write a plan file": its length, or a refusal.
-#[derive(Drop)]
+#[derive(Clone, Copy)]
 pub enum WriteAnswer {
     Written(usize),
     Refused(Refusal),
