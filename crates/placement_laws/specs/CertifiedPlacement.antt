@@ -28,6 +28,8 @@ module _ (p d k : ℕ) (excess : ℕ → ℕ) where
   certified_fits : (i : ℕ) (ss : List Part) (xs : List ℕ) → Certified p d k excess i ss xs → Fitting ss xs
   certified_fits i [] [] c = tt
   certified_fits i (s ∷ ss) (x ∷ xs) c = (c.0.fits, certified_fits (suc i) ss xs c.1)
+  certified_fits i [] (x ∷ xs) c = elim c [ ]
+  certified_fits i (s ∷ ss) [] c = elim c [ ]
 
   -- the total has a divisor of at least 1
   pub total_proper : (i : ℕ) (ss : List Part) (xs ys : List ℕ) → Certified p d k excess i ss xs → Proper (total ss ys)
@@ -36,6 +38,7 @@ module _ (p d k : ℕ) (excess : ℕ → ℕ) where
   total_proper i (s ∷ ss) (x ∷ xs) [] c = le_refl 1
   total_proper i (s ∷ ss) (x ∷ xs) (y ∷ ys) c =
       sum_proper (part_stall s y) (total ss ys) (c.0.proper y) (total_proper (suc i) ss xs ys c.1)
+  total_proper i (s ∷ ss) [] ys c = elim c [ ]
 
   -- for every placement the price bounds the total stall
   total_bound : (i : ℕ) (ss : List Part) (xs ys : List ℕ)
@@ -49,6 +52,10 @@ module _ (p d k : ℕ) (excess : ℕ → ℕ) where
       let later = total_bound (suc i) ss xs ys c.1 fits.1 in
       let both = times_le_sum d (part_stall s y) (total ss ys) _ _ here later in
       omega (arith, both)
+  total_bound i [] [] (y ∷ ys) c fits = elim fits [ ]
+  total_bound i [] (x ∷ xs) ys c fits = elim c [ ]
+  total_bound i (s ∷ ss) [] ys c fits = elim c [ ]
+  total_bound i (s ∷ ss) (x ∷ xs) [] c fits = elim fits [ ]
 
   -- the placement itself reaches the bound
   pub total_touch : (i : ℕ) (ss : List Part) (xs : List ℕ)
@@ -60,6 +67,8 @@ module _ (p d k : ℕ) (excess : ℕ → ℕ) where
       let both =
       times_sum d (part_stall s x) (total ss xs) _ _ c.0.touch (total_touch (suc i) ss xs c.1) in
       omega (arith, both)
+  total_touch i [] (x ∷ xs) c = elim c [ ]
+  total_touch i (s ∷ ss) [] c = elim c [ ]
 
   -- a placement that reaches the bound touches the line in every interval
   abbrev Tied : ℕ → List Part → List ℕ → Type 0
@@ -89,6 +98,10 @@ module _ (p d k : ℕ) (excess : ℕ → ℕ) where
       (total_bound (suc i) ss xs ys c.1 fits.1)
       (omega (arith, e)) in
       (both.0, tied (suc i) ss xs ys c.1 fits.1 both.1)
+  tied i [] [] (y ∷ ys) c fits e = elim fits [ ]
+  tied i [] (x ∷ xs) ys c fits e = elim c [ ]
+  tied i (s ∷ ss) [] ys c fits e = elim c [ ]
+  tied i (s ∷ ss) (x ∷ xs) [] c fits e = elim fits [ ]
 
   -- before interval k nothing that touches the line is larger
   top_sum : (i : ℕ) (ss : List Part) (xs ys : List ℕ)
@@ -102,6 +115,10 @@ module _ (p d k : ℕ) (excess : ℕ → ℕ) where
       let here = c.0.top (omega (arith, before)) y fits.0 t.0 in
       let later = top_sum (suc i) ss xs ys c.1 (omega (arith, before)) fits.1 t.1 in
       omega (arith, here, later)
+  top_sum i [] [] (y ∷ ys) c before fits t = elim fits [ ]
+  top_sum i [] (x ∷ xs) ys c before fits t = elim c [ ]
+  top_sum i (s ∷ ss) [] ys c before fits t = elim c [ ]
+  top_sum i (s ∷ ss) (x ∷ xs) [] c before fits t = elim fits [ ]
 
   -- after interval k nothing that touches the line is smaller
   bottom_sum : (i : ℕ) (ss : List Part) (xs ys : List ℕ)
@@ -115,6 +132,10 @@ module _ (p d k : ℕ) (excess : ℕ → ℕ) where
       let here = c.0.bottom after y fits.0 t.0 in
       let later = bottom_sum (suc i) ss xs ys c.1 (omega (arith, after)) fits.1 t.1 in
       omega (arith, here, later)
+  bottom_sum i [] [] (y ∷ ys) c after fits t = elim fits [ ]
+  bottom_sum i [] (x ∷ xs) ys c after fits t = elim c [ ]
+  bottom_sum i (s ∷ ss) [] ys c after fits t = elim c [ ]
+  bottom_sum i (s ∷ ss) (x ∷ xs) [] c after fits t = elim fits [ ]
 
   -- with as many requests placed, nothing that touches the line gives more to an earlier interval
   not_ahead : (i : ℕ) (ss : List Part) (xs ys : List ℕ)
@@ -138,6 +159,10 @@ module _ (p d k : ℕ) (excess : ℕ → ℕ) where
       inr (e, not_ahead (suc i) ss xs ys c.1 fits.1 t.1 rest))
       (λ less. inl less)
       (eq-or-lt_of_le most)
+  not_ahead i [] [] (y ∷ ys) c fits t same = elim fits [ ]
+  not_ahead i [] (x ∷ xs) ys c fits t same = elim c [ ]
+  not_ahead i (s ∷ ss) [] ys c fits t same = elim c [ ]
+  not_ahead i (s ∷ ss) (x ∷ xs) [] c fits t same = elim fits [ ]
 
 -- all requests are placed, or the price is 0 and the requests run out in no interval
 abbrev Spent : ℕ → ℕ → ℕ → List Part → List ℕ → Type 0

@@ -33,6 +33,10 @@ pub parts_behind : (per_period core : ℕ) (ws ws' : List ℕ) (rs rs' : List (L
 parts_behind per_period core [] ws' [] rs' [] qs hp hq = hq
 parts_behind per_period core (w ∷ ws) ws' (r ∷ rs) rs' (p ∷ ps) qs hp hq =
     (hp.0, hp.1, parts_behind per_period core ws ws' rs rs' ps qs hp.2 hq)
+parts_behind per_period core [] ws' [] rs' (p ∷ ps) qs hp hq = elim hp [ ]
+parts_behind per_period core [] ws' (r ∷ rs) rs' ps qs hp hq = elim hp [ ]
+parts_behind per_period core (w ∷ ws) ws' [] rs' ps qs hp hq = elim hp [ ]
+parts_behind per_period core (w ∷ ws) ws' (r ∷ rs) rs' [] qs hp hq = elim hp [ ]
 
 -- parts without a share
 abbrev Idle : List Part → Type 0
@@ -64,12 +68,18 @@ idle_same (q ∷ qs) (y ∷ ys) (z ∷ zs) idle fy fz =
     ap₂ ◌∷◌
     (idle_takes q y idle.0 fy.0 ∙ sym (idle_takes q z idle.0 fz.0))
     (idle_same qs ys zs idle.1 fy.1 fz.1)
+idle_same [] [] (z ∷ zs) idle fy fz = elim fz [ ]
+idle_same [] (y ∷ ys) zs idle fy fz = elim fy [ ]
+idle_same (q ∷ qs) [] zs idle fy fz = elim fy [ ]
+idle_same (q ∷ qs) (y ∷ ys) [] idle fy fz = elim fz [ ]
 
 -- its requests sum to 0
 idle_sum : (qs : List Part) (zs : List ℕ) → Idle qs → Fitting qs zs → sum_of zs ≡ 0
 idle_sum [] [] idle fits = refl
 idle_sum (q ∷ qs) (z ∷ zs) idle fits =
     omega (arith, idle_takes q z idle.0 fits.0, idle_sum qs zs idle.1 fits.1)
+idle_sum [] (z ∷ zs) idle fits = elim fits [ ]
+idle_sum (q ∷ qs) [] idle fits = elim fits [ ]
 
 -- and its total stall has the value 0
 idle_total : (qs : List Part) (zs : List ℕ)
@@ -87,11 +97,15 @@ idle_total (q ∷ qs) (z ∷ zs) idle sound fits =
     (whole 0)
     (idle_stall q z idle.0 sound.0 fits.0)
     (idle_total qs zs idle.1 sound.1 fits.1)
+idle_total [] (z ∷ zs) idle sound fits = elim fits [ ]
+idle_total (q ∷ qs) [] idle sound fits = elim fits [ ]
 
 -- what fits the parts in front and what fits those behind fit together
 fits_behind : (ps qs : List Part) (xs zs : List ℕ) → Fitting ps xs → Fitting qs zs → Fitting (ps ++ qs) (xs ++ zs)
 fits_behind [] qs [] zs fits none = none
 fits_behind (p ∷ ps) qs (x ∷ xs) zs fits none = (fits.0, fits_behind ps qs xs zs fits.1 none)
+fits_behind [] qs (x ∷ xs) zs fits none = elim fits [ ]
+fits_behind (p ∷ ps) qs [] zs fits none = elim fits [ ]
 
 -- what fits the parts with idle ones behind fits those in front and goes on with zs, for nothing else fits the idle ones
 each_front : (ps qs : List Part) (zs : List ℕ)
@@ -105,6 +119,7 @@ each_front : (ps qs : List Part) (zs : List ℕ)
 each_front [] qs zs idle none P each ys fits = subst P (idle_same qs zs ys idle none fits) (each [] tt)
 each_front (p ∷ ps) qs zs idle none P each (y ∷ ys) fits =
     each_front ps qs zs idle none (λ (l : List ℕ). P (y ∷ l)) (λ xs h. each (y ∷ xs) (fits.0, h)) ys fits.1
+each_front (p ∷ ps) qs zs idle none P each [] fits = elim fits [ ]
 
 -- parts without a total stall behind others leave the total its value
 total_behind : (ps qs : List Part) (xs zs : List ℕ)
@@ -121,6 +136,8 @@ total_behind (p ∷ ps) qs (x ∷ xs) zs value fits =
     (total ps xs)
     refl
     (total_behind ps qs xs zs value fits.1)
+total_behind [] qs (x ∷ xs) zs value fits = elim fits [ ]
+total_behind (p ∷ ps) qs [] zs value fits = elim fits [ ]
 
 -- no list is ahead of itself
 not_ahead_itself : (zs : List ℕ) → NotAhead zs zs
@@ -137,6 +154,10 @@ not_ahead_behind [] [] [] zs fy fx h = not_ahead_itself zs
 not_ahead_behind (p ∷ ps) (y ∷ ys) (x ∷ xs) zs fy fx (inl less) = inl less
 not_ahead_behind (p ∷ ps) (y ∷ ys) (x ∷ xs) zs fy fx (inr same) =
     inr (same.0, not_ahead_behind ps ys xs zs fy.1 fx.1 same.1)
+not_ahead_behind [] [] (x ∷ xs) zs fy fx h = elim fx [ ]
+not_ahead_behind [] (y ∷ ys) xs zs fy fx h = elim fy [ ]
+not_ahead_behind (p ∷ ps) [] xs zs fy fx h = elim fy [ ]
+not_ahead_behind (p ∷ ps) (y ∷ ys) [] zs fy fx h = elim fx [ ]
 
 -- the order of two fractions is that of two others of their values
 pub le_of_same : (f f' g g' : Fraction) → Proper f' → Proper g' → f =ᶠ f' → g =ᶠ g' → f' ≤ᶠ g' → f ≤ᶠ g

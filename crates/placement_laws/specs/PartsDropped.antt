@@ -35,6 +35,8 @@ same_back (p ∷ ps) (q ∷ qs) h = (
   record { share = sym h.0.share; curve = ⊎_elim (λ none. inl (sym h.0.share ∙ none)) (λ e. inr (sym e)) h.0.curve },
   same_back ps qs h.1,
 )
+same_back [] (q ∷ qs) h = elim h [ ]
+same_back (p ∷ ps) [] h = elim h [ ]
 
 fits_same : (p q : Part) (x : ℕ) → SamePart p q → x ≤ p.share * limit p.curve → x ≤ q.share * limit q.curve
 fits_same p q x h fits =
@@ -46,6 +48,9 @@ fits_same p q x h fits =
 fitting_same : (ps qs : List Part) (xs : List ℕ) → SameParts ps qs → Fitting ps xs → Fitting qs xs
 fitting_same [] [] xs h fits = fits
 fitting_same (p ∷ ps) (q ∷ qs) (x ∷ xs) h fits = (fits_same p q x h.0 fits.0, fitting_same ps qs xs h.1 fits.1)
+fitting_same [] (q ∷ qs) xs h fits = elim h [ ]
+fitting_same (p ∷ ps) [] xs h fits = elim h [ ]
+fitting_same (p ∷ ps) (q ∷ qs) [] h fits = elim fits [ ]
 
 stall_same : (p q : Part) (x : ℕ)
     → SamePart p q
@@ -73,6 +78,9 @@ total_same (p ∷ ps) (q ∷ qs) (x ∷ xs) h own other fits =
     same_added (part_stall p x) (part_stall q x) (total ps xs) (total qs xs)
     (stall_same p q x h.0 own.0 other.0 fits.0)
     (total_same ps qs xs h.1 own.1 other.1 fits.1)
+total_same [] (q ∷ qs) xs h own other fits = elim h [ ]
+total_same (p ∷ ps) [] xs h own other fits = elim h [ ]
+total_same (p ∷ ps) (q ∷ qs) [] h own other fits = elim fits [ ]
 
 placed_same : (ps qs : List Part) (requests : ℕ) (xs : List ℕ) → SameParts ps qs → Placement ps requests xs → Placement qs requests xs
 placed_same ps qs requests xs h placed = record { fitting = fitting_same ps qs xs h placed.fitting; within = placed.within }
@@ -123,6 +131,12 @@ pub none_placed : (per_period core : ℕ) (ws : List ℕ) (rs : List (List ℕ))
 none_placed per_period core [] [] [] [] h fits i none = refl
 none_placed per_period core (w ∷ ws) (r ∷ rs) (p ∷ ps) (x ∷ xs) h fits zero none = idle_takes p x (h.0 ∙ none) fits.0
 none_placed per_period core (w ∷ ws) (r ∷ rs) (p ∷ ps) (x ∷ xs) h fits (suc i) none = none_placed per_period core ws rs ps xs h.2 fits.1 i none
+none_placed per_period core [] [] [] (x ∷ xs) h fits i none = elim fits [ ]
+none_placed per_period core [] [] (p ∷ ps) xs h fits i none = elim h [ ]
+none_placed per_period core [] (r ∷ rs) ps xs h fits i none = elim h [ ]
+none_placed per_period core (w ∷ ws) [] ps xs h fits i none = elim h [ ]
+none_placed per_period core (w ∷ ws) (r ∷ rs) [] xs h fits i none = elim h [ ]
+none_placed per_period core (w ∷ ws) (r ∷ rs) (p ∷ ps) [] h fits i none = elim fits [ ]
 
 -- parts that are given for each index
 pub same_from : (i n : ℕ) (s t : ℕ → Part)

@@ -68,6 +68,10 @@ no_less_more j ws vs more = subst (NoLess ws) (sym more) (no_less_raised j ws)
 no_less_trans : (xs ys zs : List ℕ) → NoLess xs ys → NoLess ys zs → NoLess xs zs
 no_less_trans [] [] [] a b = tt
 no_less_trans (x ∷ xs) (y ∷ ys) (z ∷ zs) a b = (le_trans a.0 b.0, no_less_trans xs ys zs a.1 b.1)
+no_less_trans [] [] (z ∷ zs) a b = elim b [ ]
+no_less_trans [] (y ∷ ys) zs a b = elim a [ ]
+no_less_trans (x ∷ xs) [] zs a b = elim a [ ]
+no_less_trans (x ∷ xs) (y ∷ ys) [] a b = elim b [ ]
 
 module _ (count limit : ℕ) (share : ℕ → List ℕ) (met : ℕ → ℕ) (sharing : Sharing count limit share met) where
   met_shared : (k : ℕ) → k < limit → met k < length (share k)

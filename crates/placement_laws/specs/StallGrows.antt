@@ -40,6 +40,14 @@ parts_grow per_period core (w ∷ ws) (v ∷ vs) (r ∷ rs) (p ∷ ps) (q ∷ qs
       hq.1,
   parts_grow per_period core ws vs rs ps qs sums.1 le.1 hp.2 hq.2,
 )
+parts_grow per_period core [] [] [] [] (q ∷ qs) sums le hp hq = elim hq [ ]
+parts_grow per_period core [] [] [] (p ∷ ps) qs sums le hp hq = elim hp [ ]
+parts_grow per_period core [] [] (r ∷ rs) ps qs sums le hp hq = elim hp [ ]
+parts_grow per_period core [] (v ∷ vs) rs ps qs sums le hp hq = elim le [ ]
+parts_grow per_period core (w ∷ ws) [] rs ps qs sums le hp hq = elim le [ ]
+parts_grow per_period core (w ∷ ws) (v ∷ vs) [] ps qs sums le hp hq = elim hp [ ]
+parts_grow per_period core (w ∷ ws) (v ∷ vs) (r ∷ rs) [] qs sums le hp hq = elim hp [ ]
+parts_grow per_period core (w ∷ ws) (v ∷ vs) (r ∷ rs) (p ∷ ps) [] sums le hp hq = elim hq [ ]
 
 -- a placement fits larger shares
 fits_grow : (ps qs : List Part) (xs : List ℕ) → NoSmaller ps qs → Fitting ps xs → Fitting qs xs
@@ -52,6 +60,10 @@ fits_grow (p ∷ ps) (q ∷ qs) (x ∷ xs) g h = (
       (mul-le-mul_right (limit p.curve) g.0)),
   fits_grow ps qs xs g.2 h.1,
 )
+fits_grow [] [] (x ∷ xs) g h = elim h [ ]
+fits_grow [] (q ∷ qs) xs g h = elim g [ ]
+fits_grow (p ∷ ps) [] xs g h = elim g [ ]
+fits_grow (p ∷ ps) (q ∷ qs) [] g h = elim h [ ]
 
 -- and stalls no less there
 total_grows : (ps qs : List Part) (xs : List ℕ)
@@ -68,6 +80,10 @@ total_grows (p ∷ ps) (q ∷ qs) (x ∷ xs) sound g h =
     g.1
     (stall_grows_periods p.curve p.share q.share x sound.0 g.0 h.0))
     (total_grows ps qs xs sound.1 g.2 h.1)
+total_grows [] [] (x ∷ xs) sound g h = elim h [ ]
+total_grows [] (q ∷ qs) xs sound g h = elim g [ ]
+total_grows (p ∷ ps) [] xs sound g h = elim g [ ]
+total_grows (p ∷ ps) (q ∷ qs) [] sound g h = elim h [ ]
 
 -- The greatest stall grows with the shares and with the requests
 greatest_grows : (ps qs : List Part) (r s : ℕ) (xs ys : List ℕ)

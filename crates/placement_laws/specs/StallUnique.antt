@@ -39,6 +39,12 @@ module _ (per_period core : ℕ) where
       let shares = hp.0 ∙ sym hq.0 in
       let same : p ≡ q = λ i. record { share = shares i; curve = curves i } in
       ap₂ ◌∷◌ same (parts_unique ws rs ps qs sums.1 hp.2 hq.2)
+  parts_unique [] [] [] (q ∷ qs) sums hp hq = elim hq [ ]
+  parts_unique [] [] (p ∷ ps) qs sums hp hq = elim hp [ ]
+  parts_unique [] (r ∷ rs) ps qs sums hp hq = elim hp [ ]
+  parts_unique (w ∷ ws) [] ps qs sums hp hq = elim hp [ ]
+  parts_unique (w ∷ ws) (r ∷ rs) [] qs sums hp hq = elim hp [ ]
+  parts_unique (w ∷ ws) (r ∷ rs) (p ∷ ps) [] sums hp hq = elim hq [ ]
 
   -- and their curves are concave
   pub parts_concave : (ws : List ℕ) (rs : List (List ℕ)) (ps : List Part)
@@ -48,6 +54,10 @@ module _ (per_period core : ℕ) where
   parts_concave [] [] [] sums h = tt
   parts_concave (w ∷ ws) (r ∷ rs) (p ∷ ps) sums h =
       (row_concave r p.curve sums.0 h.1, parts_concave ws rs ps sums.1 h.2)
+  parts_concave [] [] (p ∷ ps) sums h = elim h [ ]
+  parts_concave [] (r ∷ rs) ps sums h = elim h [ ]
+  parts_concave (w ∷ ws) [] ps sums h = elim h [ ]
+  parts_concave (w ∷ ws) (r ∷ rs) [] sums h = elim h [ ]
 
 -- a total has a divisor of at least 1
 pub parts_proper : (ps : List Part) (xs : List ℕ) → All (λ (p : Part). Concave p.curve) ps → Proper (total ps xs)
@@ -75,6 +85,10 @@ both_not_ahead (p ∷ ps) (x ∷ xs) (y ∷ ys) fx fy (inl l) (inr m) = absurd (
 both_not_ahead (p ∷ ps) (x ∷ xs) (y ∷ ys) fx fy (inr l) (inl m) = absurd (ne_of_lt m (sym l.0))
 both_not_ahead (p ∷ ps) (x ∷ xs) (y ∷ ys) fx fy (inr l) (inr m) =
     ap₂ ◌∷◌ l.0 (both_not_ahead ps xs ys fx.1 fy.1 l.1 m.1)
+both_not_ahead [] [] (y ∷ ys) fx fy a b = elim fy [ ]
+both_not_ahead [] (x ∷ xs) ys fx fy a b = elim fx [ ]
+both_not_ahead (p ∷ ps) [] ys fx fy a b = elim fx [ ]
+both_not_ahead (p ∷ ps) (x ∷ xs) [] fx fy a b = elim fy [ ]
 
 -- the answered placement is the only one
 answered_unique : (ps : List Part) (requests : ℕ) (xs ys : List ℕ)

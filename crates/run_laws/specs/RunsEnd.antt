@@ -101,6 +101,15 @@ one_more per_period core (suc j) (w ∷ ws) (r ∷ rs) (p ∷ ps) (y ∷ ys) d s
       sum = omega (arith, later.sum);
       bound = added_second (whole d.stall) (part_stall p y) (total ps ys) (total later.parts later.placement) later.bound;
     }
+one_more per_period core j [] [] [] (y ∷ ys) d sums parts h allowed fits = elim h [ ]
+one_more per_period core j [] [] (p ∷ ps) ys d sums parts h allowed fits = elim parts [ ]
+one_more per_period core j [] (r ∷ rs) ps ys d sums parts h allowed fits = elim parts [ ]
+one_more per_period core zero (w ∷ ws) [] ps ys d sums parts h allowed fits = elim parts [ ]
+one_more per_period core zero (w ∷ ws) (r ∷ rs) [] ys d sums parts h allowed fits = elim parts [ ]
+one_more per_period core zero (w ∷ ws) (r ∷ rs) (p ∷ ps) [] d sums parts h allowed fits = elim fits [ ]
+one_more per_period core (suc j) (w ∷ ws) [] ps ys d sums parts h allowed fits = elim parts [ ]
+one_more per_period core (suc j) (w ∷ ws) (r ∷ rs) [] ys d sums parts h allowed fits = elim parts [ ]
+one_more per_period core (suc j) (w ∷ ws) (r ∷ rs) (p ∷ ps) [] d sums parts h allowed fits = elim fits [ ]
 
 -- a run of n periods from a start as a placement: so many requests, and no less stall
 record Placed (p : Plan) (core start n x s : ℕ) : Type 0 where

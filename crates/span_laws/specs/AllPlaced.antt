@@ -65,6 +65,8 @@ full_or_more (p ∷ ps) (x ∷ xs) sound fits =
           (le_refl ((total ps xs).num * (total ps xs).den));
     }))
     (eq-or-lt_of_le fits.0)
+full_or_more [] (x ∷ xs) sound fits = elim fits [ ]
+full_or_more (p ∷ ps) [] sound fits = elim fits [ ]
 
 -- an answered placement that leaves requests over is full
 left_over_full : (ps : List Part) (requests : ℕ) (xs : List ℕ)
@@ -155,6 +157,12 @@ all_uses per_period core (w ∷ ws) (r ∷ rs) (p ∷ ps) (x ∷ xs) sums h soun
     let later = all_uses per_period core ws rs ps xs sums.1 h.2 sound.1 full.1 in
     let both = uses_sum (part_stall p x) (total ps xs) x (sum_of xs) (w * per_period) (sum_of ws * per_period) here_uses later in
     omega (arith, both)
+all_uses per_period core [] [] [] (x ∷ xs) sums h sound full = elim full [ ]
+all_uses per_period core [] [] (p ∷ ps) xs sums h sound full = elim h [ ]
+all_uses per_period core [] (r ∷ rs) ps xs sums h sound full = elim h [ ]
+all_uses per_period core (w ∷ ws) [] ps xs sums h sound full = elim h [ ]
+all_uses per_period core (w ∷ ws) (r ∷ rs) [] xs sums h sound full = elim h [ ]
+all_uses per_period core (w ∷ ws) (r ∷ rs) (p ∷ ps) [] sums h sound full = elim full [ ]
 
 -- more work than requests placed does not fit beside a stall that fills the periods
 too_long : (n x t q v : ℕ) (f g : Fraction)

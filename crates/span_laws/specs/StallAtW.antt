@@ -20,6 +20,12 @@ parts_count : (per_period core : ℕ) (ws : List ℕ) (rs : List (List ℕ)) (ps
 parts_count per_period core [] [] [] [] h fitting = refl
 parts_count per_period core (w ∷ ws) (r ∷ rs) (p ∷ ps) (x ∷ xs) h fitting =
     ap suc (parts_count per_period core ws rs ps xs h.2 fitting.1)
+parts_count per_period core [] [] [] (x ∷ xs) h fitting = elim fitting [ ]
+parts_count per_period core [] [] (p ∷ ps) xs h fitting = elim h [ ]
+parts_count per_period core [] (r ∷ rs) ps xs h fitting = elim h [ ]
+parts_count per_period core (w ∷ ws) [] ps xs h fitting = elim h [ ]
+parts_count per_period core (w ∷ ws) (r ∷ rs) [] xs h fitting = elim h [ ]
+parts_count per_period core (w ∷ ws) (r ∷ rs) (p ∷ ps) [] h fitting = elim fitting [ ]
 
 -- an answered placement has a number for each interval
 pub placed_count : (p : Plan) (w : Workload) (n : ℕ) (xs : List ℕ) (s : ℕ)

@@ -59,6 +59,12 @@ parts_within per_period core (w ∷ ws) (r ∷ rs) (p ∷ ps) (x ∷ xs) sums h 
     (within_slots per_period core p.share x r p.curve sums.0 h.1 fits.0) in
     let later = parts_within per_period core ws rs ps xs sums.1 h.2 fits.1 in
     omega (arith, times_le_sum 1 (part_stall p x) (total ps xs) (w * per_period) (sum_of ws * per_period) here later)
+parts_within per_period core [] [] [] (x ∷ xs) sums h fits = elim fits [ ]
+parts_within per_period core [] [] (p ∷ ps) xs sums h fits = elim h [ ]
+parts_within per_period core [] (r ∷ rs) ps xs sums h fits = elim h [ ]
+parts_within per_period core (w ∷ ws) [] ps xs sums h fits = elim h [ ]
+parts_within per_period core (w ∷ ws) (r ∷ rs) [] xs sums h fits = elim h [ ]
+parts_within per_period core (w ∷ ws) (r ∷ rs) (p ∷ ps) [] sums h fits = elim fits [ ]
 
 -- with no more periods than a plan can have, the stall is at most the slots that the longest plan has
 pub stall_fits : (p : Plan) (core requests : ℕ) (ws xs : List ℕ) (s : ℕ)
