@@ -1,6 +1,6 @@
 -- Public questions: one promise for each, over its inputs, the paper's numbers of the answer, and each lent place before and after the call.
 use Rattle.std.specs.Prelude.{◌≡◌, ◌⊎◌, Bool, true, false, cond, ◌&&◌, List, [], ◌++◌, ℕ, zero, suc, ◌*◌, length, take, drop, leb}
-use Rattle.meaning.specs.Plan.{Plan, Workload, intervals}
+use Rattle.meaning.specs.Plan.{Plan, Workload}
 use Rattle.meaning.specs.Curve.{Curve, raw, rates, count, EnvelopeOf}
 use Rattle.meaning.specs.Placement.{AnsweredAt}
 use Rattle.meaning.specs.Span.{PlacedAt, IsSpan, NoSpan, Rounds}

@@ -1,5 +1,5 @@
 -- The greatest stall grows with the shares and with the requests.
-use Rattle.std.specs.Prelude.{◌≡◌, List, [], ◌∷◌, ℕ, ◌-◌, ◌*◌, ◌≤◌}
+use Rattle.std.specs.Prelude.{◌≡◌, List, [], ◌∷◌, ℕ, ◌*◌, ◌≤◌}
 use Rattle.std.proofs.Common.{sym, subst, subst₂, le_refl, le_trans, mul-le-mul_right, arith}
 use Rattle.meaning.specs.Fraction.{Fraction, ◌≤ᶠ◌}
 use Rattle.meaning.specs.Plan.{Plan, rows, budget_of, All}

@@ -5,7 +5,6 @@ use Rattle.std.proofs.Math.Seq.{drop-cons}
 use Rattle.std.proofs.lemmas.Bool.{eqb-false, not-false}
 use Rattle.meaning.specs.Plan.{Plan, Workload, sum_of, intervals, periods, span_limit, most_span, rows_of, rows, All, most_cores, most_per_period, most_intervals, most_periods, most_work}
 use Rattle.meaning.specs.Refusals.{refused_if, ◌before◌, outside, cores_refusal, per_period_refusal, intervals_outside, interval_refusal, intervals_refusal, plan_refusal, core_refusal, start_refusal, span_refusal}
-use Rattle.meaning.specs.Placement.{total}
 use Rattle.plan_laws.specs.RefusalOrder.{first_zero, second_zero, first_has, rule_has, both_zero, not_broken, not_refused, or_first, or_second, neither, inside, not_outside}
 
 -- there are as many rows as intervals
