@@ -1,0 +1,17 @@
+use Rattle.std.proofs.Common.{add-one, arith, rules}
+use Rattle.meaning.specs.PlanFile.{tabulate, budget_at}
+use Rattle.file_laws.specs.Masks.{sum_tabulate_more}
+use Rattle.record.proofs.faults.budgets_sum.Goals as goal
+
+pub loop-core-init : goal.loop-core-init
+unfolding tabulate
+loop-core-init c = search rules
+
+pub loop-core-preserved : goal.loop-core-preserved
+loop-core-preserved c =
+    let at = c.loop-core in
+    let more = sum_tabulate_more at.core (budget_at c.args.file.now c.args.at) in (
+      omega arith,
+      rw add-one (omega (arith, more, at.invariant.1, c.budget_at.ensures, c.wide-sum.ensures)),
+      omega arith,
+    )
