@@ -1,5 +1,5 @@
 -- The bytes of rows, interval records and workload records, as they are stored one behind the other.
-use Rattle.std.specs.Prelude.{◌≡◌, refl, cond, ℕ, suc, ◌+◌, ◌-◌, ◌*◌, ◌/◌, ◌%◌, ◌≤◌, ◌<◌, length, get_or, take, drop, eqb}
+use Rattle.std.specs.Prelude.{◌≡◌, refl, cond, ℕ, suc, ◌+◌, ◌-◌, ◌*◌, ◌/◌, ◌%◌, ◌≤◌, ◌<◌, length, get_or, drop, eqb}
 use Rattle.std.proofs.Common.{sym, ap, ◌∙◌, add-zero, suc-mul, mul-le-mul_right, arith, length-append, length-take, length-drop, drop_of_length-le, get_or-take, get_or-drop, drop-drop}
 use mathlib.Core.List.{List, [], ◌∷◌, ◌++◌, append-nil}
 use Rattle.std.proofs.Math.Numerals.{add-one}
