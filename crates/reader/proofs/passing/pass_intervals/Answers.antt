@@ -36,7 +36,7 @@ loop-i-preserved c =
     let sound =
     c.in-Sound.ensures (plan_to c.args.file.now at.i) (sym read.cores) (sym read.per_period) (sym at.invariant.total)
     in
-    rw (c.behind-at.ensures, sound.1) (read_more at.invariant c.loop-i-test.true sound.0)
+    rw (← c.behind-at.ensures, ← sound.1) at (read_more at.invariant c.loop-i-test.true sound.0)
 
 pub pass_workloads-requires : goal.pass_workloads-requires
 pass_workloads-requires c = read_all c.requires c.loop-i.invariant c.loop-i-test.false
