@@ -1,4 +1,4 @@
-use Rattle.std.proofs.Common.{◌≡◌, List, ℕ, ◌+◌, refl, sym, ap, subst, ◌∙◌, lt_irrefl, arith}
+use Rattle.std.proofs.Common.{◌≡◌, List, ℕ, ◌+◌, ◌≤◌, refl, sym, ap, subst, ◌∙◌, lt_irrefl, arith}
 use Rattle.meaning.specs.Span.{work}
 use Rattle.placement_laws.specs.Filling.{Pick}
 use Rattle.span_laws.specs.TermsInSlots.{holding, reached_more, reached_climbs, reached_rounds}
@@ -63,7 +63,7 @@ loop-term-preserved c =
     (MadePeriods.Within c.in-Within-next_term.next) c.shares_of-shares.ensures c.in-Within-next_term.ensures
     in
     reached_more next (first_of a.head a.workload) a.workload.horizon.0 turn.rounds turn.term.0 c.in-Within-next_term.next.0
-    turn.invariant c.if-workload-term.false (λ e. c.if-next-term.false (made.1 ∙ e)) made.1
+    turn.invariant (omega arith) (λ e. c.if-next-term.false (made.1 ∙ e)) made.1
 
 pub returns-in_default-next_term : goal.returns-in_default-next_term
 returns-in_default-next_term c =
@@ -75,7 +75,7 @@ returns-in_default-next_term c =
     next_made a.head a.begin a.bases.now a.lengths.now o a.workload turn.term.0 c.shares_of-shares.result
     MadePeriods.Outside c.shares_of-shares.ensures c.in_default-next_term.ensures
     in
-    let inside = c.if-workload-term.false in (
+    let inside : turn.term.0 ≤ a.workload.horizon.0 = omega arith in (
       turn.rounds + 1,
       next turn.term.0,
       reached_more next (first_of a.head a.workload) a.workload.horizon.0 turn.rounds turn.term.0 (next turn.term.0)
@@ -92,4 +92,4 @@ returns-then-next-term c =
     next_made a.head a.begin a.bases.now a.lengths.now o a.workload turn.term.0 c.shares_of-shares.result
     (MadePeriods.Within c.in-Within-next_term.next) c.shares_of-shares.ensures c.in-Within-next_term.ensures
     in
-    (turn.rounds, turn.invariant, c.if-workload-term.false, sym made.1 ∙ c.if-next-term.true, refl)
+    (turn.rounds, turn.invariant, omega arith, sym made.1 ∙ c.if-next-term.true, refl)
