@@ -1,40 +1,20 @@
 -- The walk over the rates: what it has found so far, and that at its end the block holds the corners of the envelope.
-use Rattle.std.specs.Prelude.{◌≡◌, refl, ℕ, zero, suc, ◌+◌, ◌-◌, ◌*◌, ◌≤◌, ◌<◌, length, get_or, take, drop, replicate}
+use Rattle.std.specs.Prelude.{◌≡◌, refl, ℕ, zero, suc, ◌+◌, ◌-◌, ◌≤◌, ◌<◌, length, get_or, take, drop, replicate}
 use Rattle.std.proofs.Math.Path.{sym, ap}
-use Rattle.std.proofs.Common.{◌∙◌, subst, ⊎_elim, le_refl, le_trans, le_of_lt, arith, length-take, length-drop, take-append-drop, take-suc, get_or-drop, ext_get_or, le-leb}
+use Rattle.std.proofs.Common.{◌∙◌, subst, le_refl, le_of_lt, arith, length-take, length-drop, take-append-drop, take-suc, get_or-drop, ext_get_or}
 use mathlib.Core.List.{List, [], ◌∷◌, ◌++◌, map, append_assoc, append-nil}
 use Rattle.std.proofs.lemmas.List.{length-replicate}
-use Rattle.std.proofs.lemmas.Bool.{lt-leb}
 use Rattle.meaning.specs.Plan.{budget_of}
-use Rattle.meaning.specs.Curve.{Corner, Curve, Envelope, slope, raw, block_of}
-use Rattle.number_laws.specs.Order.{le_or_lt}
+use Rattle.meaning.specs.Curve.{Corner, Curve, Envelope, raw, block_of}
 use Rattle.number_laws.specs.Zeros.{zeros}
-use Rattle.curve_laws.specs.EnvelopeConcave.{Rises, envelope_start}
-use Rattle.curve_laws.specs.RawStall.{raw_rises, raw_le}
+use Rattle.curve_laws.specs.EnvelopeConcave.{envelope_start}
 use Rattle.curve_laws.specs.SegmentCount.{at_most_cores}
-use Rattle.curve_laws.specs.CornerStack.{Stack, Open, point_at, turned, top_on_raw, open_first, open_pop, open_push, stack_envelope}
+use Rattle.curve_laws.specs.CornerStack.{Stack, turned, stack_envelope}
 use Rattle.curve.specs.Figures.{InBlock, HoldsEnvelope}
 use Rattle.curve.specs.Rows.{Interval}
-use Rattle.curve.specs.Step.{Small, Ordered, stack_of, stack_in, last_sags, kept, Nine, Ready, WithCorner, kept_step, kept_all, stack_length}
+use Rattle.curve.specs.Step.{stack_of, stack_in, Nine, stack_length}
 use Rattle.units.specs.Given.{corner_at}
 use Rattle.units.specs.declared.Block.{Block}
-
--- where the slope does not fall the corner is taken off, and what stays is a stack again
-kept_stack : (stall_at : ℕ → ℕ) (n t : Corner) (s : List Corner)
-    → Rises stall_at n.rate
-    → Open stall_at n t s
-    → Stack stall_at n (kept n (t ∷ s))
-unfolding last_sags
-kept_stack stall_at n t [] rises o = rw (kept_all n t [] refl) (open_push stall_at n t [] o tt)
-kept_stack stall_at n t (u ∷ s) rises o =
-    let left = (slope u t).num * (slope t n).den in
-    let right = (slope t n).num * (slope u t).den in
-    ⊎_elim
-    (λ le.
-    rw (kept_step n t (u ∷ s) (le-leb left right le))
-    (kept_stack stall_at n u s rises (open_pop stall_at n t u s rises o le)))
-    (λ lt. rw (kept_all n t (u ∷ s) (lt-leb left right lt)) (open_push stall_at n t (u ∷ s) o lt))
-    (le_or_lt left right)
 
 -- the corners of the raw stall at the rates below n, the last one first
 abbrev pub StackBelow : (ℕ → ℕ) → ℕ → List Corner → Type 0
@@ -55,73 +35,9 @@ found_none stall_at = record { rates = blank; stalls = blank; stack = refl }
     blank : Nine 0 (replicate 9 0)
     blank = record { most = omega arith; long = refl; blank = λ k le. zeros 9 k }
 
--- the rates of a stack rise, and its stalls do not fall
-ordered_stack : (stall_at : ℕ → ℕ) (q : ℕ) (t : Corner) (s : List Corner)
-    → Rises stall_at q
-    → t.rate ≤ q
-    → Stack stall_at t s
-    → Ordered t s
-ordered_stack stall_at q t [] rises le h = tt
-ordered_stack stall_at q t (u ∷ s) rises le h = (
-  h.0.rising,
-  omega (arith, h.0.on_raw, top_on_raw stall_at u s h.1, rises u.rate t.rate (le_of_lt h.0.rising) le),
-  ordered_stack stall_at q u s rises (le_trans (le_of_lt h.0.rising) le) h.1,
-)
-
-turned_length : (t : Corner) (s later : List Corner) → length (turned t s later).rest ≡ length s + length later
+pub turned_length : (t : Corner) (s later : List Corner) → length (turned t s later).rest ≡ length s + length later
 turned_length t [] later = omega arith
 turned_length t (u ∷ s) later = omega (arith, turned_length u s (t ∷ later))
-
-module _ (stall_at : ℕ → ℕ) (p : Corner) (n : ℕ) (rises : Rises stall_at n) (at : p ≡ point_at stall_at n) where
-  rate_at : p.rate ≡ n
-  rate_at = ap (λ (c : Corner). c.rate) at
-
-  on_raw_lem : p.stall ≡ stall_at p.rate
-  on_raw_lem = rw at
-
-  rises_to : Rises stall_at p.rate
-  rises_to = rw at rises
-
-  stack_next : (s : List Corner) → StackBelow stall_at n s → Stack stall_at p (kept p s)
-  unfolding kept
-  stack_next [] h = (rate_at ∙ h, on_raw_lem ∙ ap stall_at (rate_at ∙ h))
-  stack_next (t ∷ s) h =
-      kept_stack stall_at p t s rises_to (open_first stall_at p t s h.1 (rate_at ∙ sym h.0) on_raw_lem)
-
-  ordered_next : (s : List Corner) → StackBelow stall_at n s → Ordered p s
-  ordered_next [] h = tt
-  ordered_next (t ∷ s) h =
-      let below : t.rate < p.rate = omega (arith, rate_at, h.0) in (
-        below,
-        omega (arith, on_raw_lem, top_on_raw stall_at t s h.1, rises_to t.rate p.rate (le_of_lt below) (le_refl p.rate)),
-        ordered_stack stall_at p.rate t s rises_to (le_of_lt below) h.1,
-      )
-
-  -- the point at n can be put on, where an envelope up to n has at most nine corners
-  found_ready : (b : Block)
-      → ((c : Curve) → Envelope stall_at n c → length c.rest < 9)
-      → Found stall_at n b
-      → Ready p b.rates b.stalls b.count
-  found_ready b few f =
-      let stack : Stack stall_at p (kept p (stack_in b)) = stack_next (stack_in b) f.stack in
-      let curve : Curve = turned p (kept p (stack_in b)) [] in
-      let envelope : Envelope stall_at n curve =
-      subst (λ (q : ℕ). Envelope stall_at q curve) rate_at (stack_envelope stall_at p (kept p (stack_in b)) stack) in
-      record {
-        rates = f.rates;
-        stalls = f.stalls;
-        ordered = ordered_next (stack_in b) f.stack;
-        room = omega (arith, turned_length p (kept p (stack_in b)) [], few curve envelope);
-      }
-
-  -- and then the walk has come one rate further
-  found_next : (b r : Block) → Found stall_at n b → WithCorner p b r → Found stall_at (n + 1) r
-  found_next b r f h =
-      record {
-        rates = h.rates;
-        stalls = h.stalls;
-        stack = rw h.stack (ap (λ (k : ℕ). k + 1) rate_at, stack_next (stack_in b) f.stack);
-      }
 
 -- one number of each corner of a curve
 abbrev numbers_of : (Corner → ℕ) → Curve → List ℕ
@@ -187,39 +103,6 @@ pub found_holds : (stall_at : ℕ → ℕ) (n q : ℕ) (b : Block)
 found_holds stall_at n q b end f =
     holds_stack stall_at q b.rates b.stalls b.count f.rates f.stalls
     (subst (λ (k : ℕ). StackBelow stall_at k (stack_in b)) end f.stack)
-
-module _
-    (per_period core : ℕ)
-    (row : List ℕ)
-    (i : Interval per_period core row)
-    (p : Corner)
-    (r : ℕ)
-    (within : r ≤ budget_of core row)
-    (at : p ≡ point_at (raw per_period row core) r)
-  where
-    rises_below : Rises (raw per_period row core) r
-    rises_below a b up last = raw_rises per_period row core i.whole.sums a b up (le_trans last within)
-
-    -- a point of the raw stall up to the core's budget is a corner that a block has room for
-    pub point_small : Small p
-    point_small =
-        let room = raw_le per_period row core i.whole.sums r within in
-        let rate = ap (λ (c : Corner). c.rate) at in
-        let stall = ap (λ (c : Corner). c.stall) at in
-        record { rate = omega (arith, i.slots); stall = omega (arith, i.slots) }
-
-    -- it can be put on: there are at most as many segments as cores
-    pub walk_ready : (b : Block) → Found (raw per_period row core) r b → Ready p b.rates b.stalls b.count
-    walk_ready b =
-        found_ready (raw per_period row core) p r rises_below at b
-        (λ c e. omega (arith, i.cores, at_most_cores per_period row core r c i.whole.sums within e))
-
-    -- and then the walk over the interval has come one rate further
-    pub walk_next : (b b' : Block)
-        → Found (raw per_period row core) r b
-        → WithCorner p b b'
-        → Found (raw per_period row core) (r + 1) b'
-    walk_next = found_next (raw per_period row core) p r rises_below at
 
 -- a block that holds the corners of an interval has at most nine
 pub holds_most : (per_period core : ℕ) (row : List ℕ) (b : Block)
