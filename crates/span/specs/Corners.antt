@@ -4,7 +4,7 @@ use Rattle.std.proofs.Common.{sym, ap, ◌∙◌, subst, ⊎_elim, zero-le, lt_i
 use Rattle.std.proofs.lemmas.List.{length-replicate, get_or-replicate}
 use Rattle.std.proofs.Math.ListN.{get_or-map}
 use Rattle.meaning.specs.Plan.{Plan, intervals, rows}
-use Rattle.meaning.specs.Curve.{Corner, Curve, EnvelopeOf, Concave, rates, stalls, count, block_of}
+use Rattle.meaning.specs.Curve.{Corner, Curve, EnvelopeOf, Concave, rates, stalls, block_of}
 use Rattle.number_laws.specs.Order.{le_or_lt}
 use Rattle.number_laws.specs.Lists.{list_from, all_at}
 use Rattle.plan_laws.specs.SoundPlan.{SoundPlan, SoundCore, WholeRow}
