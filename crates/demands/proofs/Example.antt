@@ -1,5 +1,5 @@
 -- The example's listing, proved from the table.
-use Rattle.std.specs.Prelude.{refl, List, [], ◌∷◌, ◌++◌, ℕ}
+use Rattle.std.specs.Prelude.{refl, [], ◌∷◌, ◌++◌}
 use Rattle.meaning.specs.Promises.{no_span_figures}
 use Rattle.meaning.specs.Listing.{plan_line, span_line, refused_line, end_line, Lines, Listing}
 use Rattle.demands.specs.Worked.{example_plan, example_file, example_contents, example_reads}

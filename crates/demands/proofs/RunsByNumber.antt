@@ -1,12 +1,11 @@
 -- The two definitions of lawful runs say the same, so every run that is lawful by number ends within the span.
 use Rattle.std.specs.Prelude.{◌≡◌, refl, List, [], ◌∷◌, ℕ, zero, suc, ◌+◌, ◌≤◌, ◌<◌, length, get_or}
 use Rattle.std.proofs.Common.{sym, ap, subst, le_of_suc-le-suc, not-suc-le-zero, add-zero, arith}
-use Rattle.meaning.specs.Plan.{Plan, Workload, rows, most_span, budget_of, interval_at, in_force}
-use Rattle.meaning.specs.Curve.{raw}
-use Rattle.meaning.specs.Run.{Period, used, Allowed, LawfulFrom, computed, requested, Lawful, EndsWithin}
+use Rattle.meaning.specs.Plan.{Plan, Workload, in_force}
+use Rattle.meaning.specs.Run.{Period, used, Allowed, LawfulFrom, Lawful, EndsWithin}
 use Rattle.meaning.specs.Promises.{SpanFigures, SpanPromise}
 use Rattle.demands.specs.Demands.{runs_end}
-use Rattle.demands.specs.RunsByNumber.{row_of, idle, LawfulByNumber}
+use Rattle.demands.specs.RunsByNumber.{idle, LawfulByNumber}
 
 -- what holds of each period by its number, from the k-th on
 record ByNumber (p : Plan) (core k : ℕ) (ds : List Period) : Type 0 where

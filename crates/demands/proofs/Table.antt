@@ -1,78 +1,21 @@
 -- The table holds.
-use Rattle.std.specs.Prelude.{◌≡◌, refl, Bool, true, false, List, [], ◌∷◌, ℕ, length}
-use Rattle.meaning.specs.Fraction.{round_up, whole, ◌+ᶠ◌}
-use Rattle.meaning.specs.Plan.{Plan, Workload, intervals, lengths_from, rows_of, All}
-use Rattle.meaning.specs.Curve.{Curve, raw, others, sum_of_smaller, rates, stalls, EnvelopeOf, interval_stall, stall_from}
-use Rattle.meaning.specs.Placement.{shares, together, AnsweredAt}
-use Rattle.meaning.specs.Span.{first_term, NextTerm}
+use Rattle.std.specs.Prelude.{refl, true, [], ◌∷◌}
+use Rattle.meaning.specs.Fraction.{round_up}
+use Rattle.meaning.specs.Plan.{lengths_from, rows_of, All}
+use Rattle.meaning.specs.Curve.{raw, others, sum_of_smaller}
+use Rattle.meaning.specs.Placement.{shares, together}
 use Rattle.meaning.specs.Refusals.{intervals_refusal, plan_refusal, core_refusal, placement_refusal, span_refusal}
 use Rattle.meaning.specs.PlanFile.{tabulate}
-use Rattle.meaning.specs.Promises.{SpanFigures, no_span_figures, SpanAnswered}
 use Rattle.number_laws.specs.Lists.{list_from, sum_from}
 use Rattle.placement_laws.specs.Filling.{walk, fill}
 use Rattle.placement_laws.specs.OrderMerged.{order_to, merged, weave, picks_from}
 use Rattle.span_laws.specs.SearchFinds.{sought, one_more}
 use Rattle.span_laws.specs.WorkedAnswers.{covered, corners_right, envelope_right, curves_right, envelope_checked, claim_answer, claim_placement}
 use Rattle.span_laws.specs.WorkedAnswers.{claim_next}
-use Rattle.demands.specs.Worked.{example_marked, example_plan, equal_repeats}
-use Rattle.demands.specs.Table.{Row, budgets, plan, alone, three, same, listing_repeats, one_repeats, parked_budgets, parked_marked, parked, parked_through, load_from, load, given, table, Terms, NextTerms, RowHolds}
-use Rattle.demands.specs.Table.Row.{curve_row, span_row, terms_row, placement_row}
+use Rattle.demands.specs.Worked.{example_plan, equal_repeats}
+use Rattle.demands.specs.Table.{budgets, plan, alone, three, same, listing_repeats, one_repeats, parked_budgets, parked_marked, parked, parked_through, load_from, load, table, RowHolds, curve1, curve3, curve4, equal3, whole1, second3, third3, parked1, parked_curves}
 
 infixr 10 ◌also◌
-
--- the corners of core 1
-abbrev curve1 : Curve
-curve1 = record { first = record { rate = 0; stall = 0 }; rest = record { rate = 2; stall = 14 } ∷ [] }
-
--- the corners of core 3
-abbrev curve3 : Curve
-curve3 =
-    record {
-      first = record { rate = 0; stall = 0 };
-      rest = record { rate = 2; stall = 6 } ∷ record { rate = 5; stall = 11 } ∷ [];
-    }
-
--- the corners of core 4
-abbrev curve4 : Curve
-curve4 =
-    record {
-      first = record { rate = 0; stall = 0 };
-      rest = record { rate = 2; stall = 6 } ∷ record { rate = 5; stall = 9 } ∷ record { rate = 7; stall = 9 } ∷ [];
-    }
-
--- the corners of core 3 with equal budgets, and of core 2 beside a parked core
-abbrev equal3 : Curve
-equal3 = record { first = record { rate = 0; stall = 0 }; rest = record { rate = 4; stall = 12 } ∷ [] }
-
--- the corners of the core that is alone
-abbrev whole1 : Curve
-whole1 = record { first = record { rate = 0; stall = 0 }; rest = record { rate = 16; stall = 0 } ∷ [] }
-
--- the corners of core 3 in the second interval of 004's section VI
-abbrev second3 : Curve
-second3 =
-    record {
-      first = record { rate = 0; stall = 0 };
-      rest =
-          record { rate = 2; stall = 6 }
-          ∷ record { rate = 3; stall = 8 }
-          ∷ record { rate = 4; stall = 9 }
-          ∷ record { rate = 7; stall = 9 }
-          ∷ [];
-    }
-
--- and in the third
-abbrev third3 : Curve
-third3 = record { first = record { rate = 0; stall = 0 }; rest = record { rate = 1; stall = 15 } ∷ [] }
-
--- the one corner of a parked core
-abbrev parked1 : Curve
-parked1 = record { first = record { rate = 0; stall = 16 }; rest = [] }
-
--- the corners of core 1 in the three intervals, parked in the first and the last
-abbrev parked_curves : List Curve
-parked_curves = parked1 ∷ curve1 ∷ parked1 ∷ []
-
 -- one more row
 abbrev ◌also◌ : {A B : Type 0} → A → B → A × B
 ◌also◌ row later = (row, later)
@@ -150,12 +93,3 @@ table_holds =
     also (refl, claim_placement (parked_marked true) 1 2 5 4 3 parked_curves refl refl)
     also (refl, claim_placement equal_repeats 3 10 2 3 2 (equal3 ∷ equal3 ∷ []) refl refl)
     also tt
-
--- 004: core 3's envelope, with corners 0, 2, 5 and stalls 0, 6, 11 there, gives 9 periods with 35 requests a stall of 82 1/3
-pub stall_of_nine : (c : Curve)
-    × EnvelopeOf 16 3 budgets c
-    × (rates c ≡ 0 ∷ 2 ∷ 5 ∷ [])
-    × (stalls c ≡ 0 ∷ 6 ∷ 11 ∷ [])
-    × (interval_stall c 9 35 ≡ whole 82 +ᶠ record { num = 1; den = 3 })
-unfolding raw others sum_of_smaller covered corners_right envelope_right stall_from
-stall_of_nine = (curve3, envelope_checked (raw 16 budgets 3) 5 curve3 refl, refl, refl, refl)

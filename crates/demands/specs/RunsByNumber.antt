@@ -1,11 +1,8 @@
 -- Lawful runs said once more, by the number of each period, and that the two definitions say the same: so every such run ends within the span.
-use Rattle.std.specs.Prelude.{◌≡◌, refl, List, [], ◌∷◌, ℕ, zero, suc, ◌+◌, ◌≤◌, ◌<◌, length, get_or}
-use Rattle.std.proofs.Common.{sym, ap, subst, le_of_suc-le-suc, not-suc-le-zero, add-zero, arith}
-use Rattle.meaning.specs.Plan.{Plan, Workload, rows, most_span, budget_of, interval_at, in_force}
+use Rattle.std.specs.Prelude.{◌≡◌, List, [], ℕ, suc, ◌+◌, ◌≤◌, ◌<◌, length, get_or}
+use Rattle.meaning.specs.Plan.{Plan, Workload, rows, most_span, budget_of, interval_at}
 use Rattle.meaning.specs.Curve.{raw}
-use Rattle.meaning.specs.Run.{Period, used, Allowed, LawfulFrom, computed, requested, Lawful, EndsWithin}
-use Rattle.meaning.specs.Promises.{SpanFigures, SpanPromise}
-use Rattle.demands.specs.Demands.{runs_end}
+use Rattle.meaning.specs.Run.{Period, used, computed, requested}
 
 -- the budgets in force in period k: those of its interval
 abbrev pub row_of : Plan → ℕ → List ℕ

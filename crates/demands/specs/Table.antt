@@ -1,19 +1,14 @@
 -- The table P1 to P10 of document 01, with the numbers worked for the requests of document 02, under one proved statement over the definitions.
 use Rattle.std.specs.Prelude.{◌≡◌, refl, Bool, true, false, List, [], ◌∷◌, ℕ, length}
-use Rattle.meaning.specs.Fraction.{round_up, whole, ◌+ᶠ◌}
-use Rattle.meaning.specs.Plan.{Plan, Workload, intervals, lengths_from, rows_of, All}
+use Rattle.meaning.specs.Fraction.{whole, ◌+ᶠ◌}
+use Rattle.meaning.specs.Plan.{Plan, Workload, intervals}
 use Rattle.meaning.specs.Curve.{Curve, raw, others, sum_of_smaller, rates, stalls, EnvelopeOf, interval_stall, stall_from}
-use Rattle.meaning.specs.Placement.{shares, together, AnsweredAt}
+use Rattle.meaning.specs.Placement.{AnsweredAt}
 use Rattle.meaning.specs.Span.{first_term, NextTerm}
-use Rattle.meaning.specs.Refusals.{intervals_refusal, plan_refusal, core_refusal, placement_refusal, span_refusal}
+use Rattle.meaning.specs.Refusals.{placement_refusal}
 use Rattle.meaning.specs.PlanFile.{tabulate}
 use Rattle.meaning.specs.Promises.{SpanFigures, no_span_figures, SpanAnswered}
-use Rattle.number_laws.specs.Lists.{list_from, sum_from}
-use Rattle.placement_laws.specs.Filling.{walk, fill}
-use Rattle.placement_laws.specs.OrderMerged.{order_to, merged, weave, picks_from}
-use Rattle.span_laws.specs.SearchFinds.{sought, one_more}
-use Rattle.span_laws.specs.WorkedAnswers.{covered, corners_right, envelope_right, curves_right, envelope_checked, claim_answer, claim_placement}
-use Rattle.span_laws.specs.WorkedAnswers.{claim_next}
+use Rattle.span_laws.specs.WorkedAnswers.{covered, corners_right, envelope_right, envelope_checked}
 use Rattle.demands.specs.Worked.{example_marked, example_plan, equal_repeats}
 
 -- a row: the raw stalls and the corners of a core with these budgets and Q = 16; or a workload on a plan and its answer; or its terms; or a placement from a start at a given W and its stall
@@ -208,3 +203,65 @@ RowHolds (span_row p w a xs) = SpanAnswered p w (intervals p) a xs
 RowHolds (terms_row p w terms) = Terms p w terms
 RowHolds (placement_row p core requests start n stall xs) =
     (placement_refusal p core requests start n (intervals p) ≡ 0) × AnsweredAt p core requests start n xs stall
+
+-- the corners of core 1
+abbrev pub curve1 : Curve
+curve1 = record { first = record { rate = 0; stall = 0 }; rest = record { rate = 2; stall = 14 } ∷ [] }
+
+-- the corners of core 3
+abbrev pub curve3 : Curve
+curve3 =
+    record {
+      first = record { rate = 0; stall = 0 };
+      rest = record { rate = 2; stall = 6 } ∷ record { rate = 5; stall = 11 } ∷ [];
+    }
+
+-- the corners of core 4
+abbrev pub curve4 : Curve
+curve4 =
+    record {
+      first = record { rate = 0; stall = 0 };
+      rest = record { rate = 2; stall = 6 } ∷ record { rate = 5; stall = 9 } ∷ record { rate = 7; stall = 9 } ∷ [];
+    }
+
+-- the corners of core 3 with equal budgets, and of core 2 beside a parked core
+abbrev pub equal3 : Curve
+equal3 = record { first = record { rate = 0; stall = 0 }; rest = record { rate = 4; stall = 12 } ∷ [] }
+
+-- the corners of the core that is alone
+abbrev pub whole1 : Curve
+whole1 = record { first = record { rate = 0; stall = 0 }; rest = record { rate = 16; stall = 0 } ∷ [] }
+
+-- the corners of core 3 in the second interval of 004's section VI
+abbrev pub second3 : Curve
+second3 =
+    record {
+      first = record { rate = 0; stall = 0 };
+      rest =
+          record { rate = 2; stall = 6 }
+          ∷ record { rate = 3; stall = 8 }
+          ∷ record { rate = 4; stall = 9 }
+          ∷ record { rate = 7; stall = 9 }
+          ∷ [];
+    }
+
+-- and in the third
+abbrev pub third3 : Curve
+third3 = record { first = record { rate = 0; stall = 0 }; rest = record { rate = 1; stall = 15 } ∷ [] }
+
+-- the one corner of a parked core
+abbrev pub parked1 : Curve
+parked1 = record { first = record { rate = 0; stall = 16 }; rest = [] }
+
+-- the corners of core 1 in the three intervals, parked in the first and the last
+abbrev pub parked_curves : List Curve
+parked_curves = parked1 ∷ curve1 ∷ parked1 ∷ []
+
+-- 004: core 3's envelope, with corners 0, 2, 5 and stalls 0, 6, 11 there, gives 9 periods with 35 requests a stall of 82 1/3
+pub stall_of_nine : (c : Curve)
+    × EnvelopeOf 16 3 budgets c
+    × (rates c ≡ 0 ∷ 2 ∷ 5 ∷ [])
+    × (stalls c ≡ 0 ∷ 6 ∷ 11 ∷ [])
+    × (interval_stall c 9 35 ≡ whole 82 +ᶠ record { num = 1; den = 3 })
+unfolding raw others sum_of_smaller covered corners_right envelope_right stall_from
+stall_of_nine = (curve3, envelope_checked (raw 16 budgets 3) 5 curve3 refl, refl, refl, refl)
