@@ -1,19 +1,21 @@
 // Answers told as text: words, numbers after a space, and the answers to questions on whole plans.
 #![tactic(auto)]
 
-use libc::STDOUT_FILENO;
 use span::{PlacementAnswer, SpanAnswer};
 use units::{Head, Periods, Refusal, Workload, wide};
 
+// Standard output.
+const STDOUT: i32 = 1;
+
 // Words, as they are.
 pub fn say(words: &[u8]) {
-    io::write_all(STDOUT_FILENO, words);
+    io::write_all(STDOUT, words);
 }
 
 // A number after a space.
 pub fn tell(number: u32) {
     say(b" ");
-    io::print_decimal(STDOUT_FILENO, number as u64);
+    io::print_decimal(STDOUT, number as u64);
 }
 
 // Each number after a space, and the end of the line.
