@@ -3,10 +3,12 @@
 #![tactic(auto)]
 
 use interval::{CornersAnswer, RawAnswer};
-use libc::STDOUT_FILENO;
 use tell::{say, tell, tell_placement, tell_rates, tell_refused, tell_span};
 use units::{Head, Periods, Requests, Slots, Workload};
 use writer::WriteAnswer;
+
+// Standard output.
+const STDOUT: i32 = 1;
 
 // The head of a plan of four cores with Q = 16, repeating or plain.
 fn four_cores(repeating: bool) -> Head {
@@ -276,7 +278,7 @@ fn longest_file(words: &[u8], place: &mut [u8]) {
     );
     match answer {
         WriteAnswer::Written(bytes) => {
-            io::print_decimal(STDOUT_FILENO, bytes as u64);
+            io::print_decimal(STDOUT, bytes as u64);
             say(b"\n");
         }
         WriteAnswer::Refused(refusal) => tell_refused(refusal),
