@@ -8,12 +8,17 @@ ghost use Rattle.reader.specs.Reading.{places_of};
 ghost use Rattle.lines.specs.Held.{ReadInto};
 ghost use Rattle.spans.specs.Printed.{Within};
 
-use libc::{STDIN_FILENO, STDOUT_FILENO};
 use listing::Line;
 use reader::ReadAnswer;
 
 // The most bytes of a file that are read: no longer file is accepted, and every longer one answers the same.
 const MOST_BYTES: usize = 8_192;
+
+// Standard input.
+const STDIN: i32 = 0;
+
+// Standard output.
+const STDOUT: i32 = 1;
 
 // A line as it was built, written in one call; whether it was written.
 fn print(line: &[u8], built: Line) -> bool
@@ -22,7 +27,7 @@ fn print(line: &[u8], built: Line) -> bool
     let Line::Length(length) = built else {
         return false;
     };
-    io::write_all(STDOUT_FILENO, &line[..length])
+    io::write_all(STDOUT, &line[..length])
 }
 
 // Standard input to its end, but no more than there is room for; how many bytes there were.
@@ -30,7 +35,7 @@ fn read_input(file: &mut [u8]) -> usize
     requires { length file.old ≡ 8_192 }
     ensures { IsPrefixLen result file.new }
 {
-    io::read_full(STDIN_FILENO, file)
+    io::read_full(STDIN, file)
 }
 
 // The lines of a file's listing, one after the other. A line that cannot be written ends it.
