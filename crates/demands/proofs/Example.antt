@@ -1,4 +1,4 @@
--- The example's listing, proved from the table.
+-- The program's listing of document 01, whole: the example's four lines are the listing of its file.
 use Rattle.std.specs.Prelude.{refl, [], ◌∷◌, ◌++◌}
 use Rattle.meaning.specs.Promises.{no_span_figures}
 use Rattle.meaning.specs.Listing.{plan_line, span_line, refused_line, end_line, Lines, Listing}

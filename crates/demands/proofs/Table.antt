@@ -1,4 +1,4 @@
--- The table holds.
+-- Every row of the table holds, as one statement over the definitions.
 use Rattle.std.specs.Prelude.{refl, true, [], ◌∷◌}
 use Rattle.meaning.specs.Fraction.{round_up}
 use Rattle.meaning.specs.Plan.{lengths_from, rows_of, All}

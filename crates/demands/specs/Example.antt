@@ -1,4 +1,4 @@
--- The program's listing of document 01, whole: the example's four lines are the listing of its file.
+-- The lines of the listing of document 01's file. That they are its listing is in proofs/Example.antt.
 use Rattle.std.specs.Prelude.{List, [], ◌∷◌, ◌++◌, ℕ}
 use Rattle.meaning.specs.Listing.{span_line, refused_line, end_line}
 use Rattle.demands.specs.Table.{given}

@@ -1,4 +1,4 @@
--- Lawful runs said once more, by the number of each period, and that the two definitions say the same: so every such run ends within the span.
+-- Lawful runs said once more, by the number of each period. That the two definitions say the same is in proofs/RunsByNumber.antt.
 use Rattle.std.specs.Prelude.{◌≡◌, List, [], ℕ, suc, ◌+◌, ◌≤◌, ◌<◌, length, get_or}
 use Rattle.meaning.specs.Plan.{Plan, Workload, rows, most_span, budget_of, interval_at}
 use Rattle.meaning.specs.Curve.{raw}

@@ -1,4 +1,5 @@
--- The table P1 to P10 of document 01, with the numbers worked for the requests of document 02, under one proved statement over the definitions.
+-- The table P1 to P10 of document 01, with the numbers worked for the requests of document 02. That every row holds is one
+-- statement, proved in proofs/Table.antt.
 use Rattle.std.specs.Prelude.{◌≡◌, refl, Bool, true, false, List, [], ◌∷◌, ℕ, length}
 use Rattle.meaning.specs.Fraction.{whole, ◌+ᶠ◌}
 use Rattle.meaning.specs.Plan.{Plan, Workload, intervals}

@@ -58,7 +58,7 @@ block_of ns = ns ++ replicate (9 - length ns) 0
 abbrev pub slope : Corner → Corner → Fraction
 slope a b = record { num = b.stall - a.stall; den = b.rate - a.rate }
 
--- on the segment from a to b, for w periods and x requests: w-raw(a) + (x - w·a)·(raw(b) - raw(a))/(b - a)
+-- on the segment from a to b, for w periods and x requests: w·raw(a) + (x - w·a)·(raw(b) - raw(a))/(b - a)
 abbrev pub on_segment : Corner → Corner → ℕ → ℕ → Fraction
 on_segment a b w x =
     record {

@@ -97,7 +97,7 @@ pub fn fill_workloads(
     horizons: &mut [u16],
 )
     requires count_in_bounds { start + 16 * count ≤ length file.now }
-    requires count_in_bounds_2 { (count ≤ length analysed.old)
+    requires room { (count ≤ length analysed.old)
         × (count ≤ length computing.old)
         × (count ≤ length requests.old)
         × (count ≤ length horizons.old) }

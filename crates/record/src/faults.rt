@@ -108,7 +108,7 @@ fn listed_zero(file: &[u8], at: usize, count: usize) -> bool
 // The body of an interval record: 23, 22, 24, then its values, 4 before 5.
 fn interval_body_fault(file: &[u8], at: usize, head: Head, passed: Periods) -> Judgement
     requires cores_le_most_cores { head.cores ≤ most_cores }
-    requires false_value { zero_fault file.now at interval_kind false ≡ 0 }
+    requires zero_bytes { zero_fault file.now at interval_kind false ≡ 0 }
     ensures { IntervalRecordJudged file.now at head passed.0 result }
 {
     let mask = mask_at(file, at);

@@ -52,7 +52,7 @@ fn put_budget(place: &mut [u8], at: usize, budget: u16) -> usize
 // The listed budgets of the cores from a start on, stored at an offset; the offset behind them.
 fn put_budgets(place: &mut [u8], at: usize, budgets: &[u16], start: usize, cores: u8) -> usize
     requires cores_in_bounds { start + cores ≤ length budgets.now }
-    requires cores_in_bounds_2 { at + length (listed_of (row_from budgets.now start cores)) ≤ length place.old }
+    requires room { at + length (listed_of (row_from budgets.now start cores)) ≤ length place.old }
     ensures value { result ≡ at + length (listed_of (row_from budgets.now start cores)) }
     ensures place_after { place.new
         ≡ sets place.old at (listed_of (row_from budgets.now start cores)) }

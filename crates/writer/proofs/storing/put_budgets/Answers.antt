@@ -22,7 +22,7 @@ put_budget-behind-requires c =
     (rest_of a.budgets.now a.start a.cores core)
     c.loop-core.invariant.1
     (listed_from a.budgets.now a.start a.cores c.requires.cores_in_bounds core c.loop-core-test.true)
-    c.requires.cores_in_bounds_2
+    c.requires.room
 
 pub loop-core-preserved : goal.loop-core-preserved
 loop-core-preserved c =

@@ -12,8 +12,8 @@ put_start-requires c = omega (arith, interval_room c.args.periods.0 (row_from c.
 pub put_two-requires : goal.put_two-requires
 put_two-requires c = omega (arith, interval_room c.args.periods.0 (row_from c.args.budgets.now c.args.start c.args.cores))
 
-pub put_budgets-requires-clause-cores_in_bounds_2 : goal.put_budgets-requires-clause-cores_in_bounds_2
-put_budgets-requires-clause-cores_in_bounds_2 c =
+pub put_budgets-requires-clause-room : goal.put_budgets-requires-clause-room
+put_budgets-requires-clause-room c =
     omega (arith, interval_room c.args.periods.0 (row_from c.args.budgets.now c.args.start c.args.cores))
 
 pub returns-clause-value : goal.returns-clause-value
