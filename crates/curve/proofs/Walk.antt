@@ -1,7 +1,7 @@
 -- One turn of the walk over the rates: the next point can be put on, and then the walk has come one rate further.
 use Rattle.std.specs.Prelude.{◌≡◌, refl, ℕ, ◌+◌, ◌*◌, ◌≤◌, ◌<◌, length}
 use Rattle.std.proofs.Math.Path.{sym, ap}
-use Rattle.std.proofs.Common.{◌∙◌, subst, ⊎_elim, le_refl, le_trans, le_of_lt, arith, le-leb}
+use Rattle.std.proofs.Common.{◌∙◌, ⊎_elim, le_refl, le_trans, le_of_lt, arith, le-leb}
 use mathlib.Core.List.{List, [], ◌∷◌}
 use Rattle.std.proofs.lemmas.Bool.{lt-leb}
 use Rattle.meaning.specs.Plan.{budget_of}
@@ -10,10 +10,10 @@ use Rattle.number_laws.specs.Order.{le_or_lt}
 use Rattle.curve_laws.specs.EnvelopeConcave.{Rises}
 use Rattle.curve_laws.specs.RawStall.{raw_rises, raw_le}
 use Rattle.curve_laws.specs.SegmentCount.{at_most_cores}
-use Rattle.curve_laws.specs.CornerStack.{Stack, Open, point_at, turned, top_on_raw, open_first, open_pop, open_push, stack_envelope}
+use Rattle.curve_laws.specs.CornerStack.{Stack, Open, turned, top_on_raw, open_first, open_pop, open_push, stack_envelope}
 use Rattle.curve.specs.Rows.{Interval}
-use Rattle.curve.specs.Step.{Small, Ordered, stack_in, last_sags, kept, Ready, WithCorner, kept_step, kept_all}
-use Rattle.units.specs.declared.Block.{Block}
+use Rattle.curve.specs.Step.{Ordered, stack_in, last_sags, kept, Ready, WithCorner, kept_step, kept_all}
+use Rattle.units.specs.declared.corner.Block.{Block}
 use Rattle.curve.specs.Found.{StackBelow, Found, turned_length}
 
 -- where the slope does not fall the corner is taken off, and what stays is a stack again
@@ -46,86 +46,69 @@ ordered_stack stall_at q t (u ∷ s) rises le h = (
   ordered_stack stall_at q u s rises (le_trans (le_of_lt h.0.rising) le) h.1,
 )
 
-module _ (stall_at : ℕ → ℕ) (p : Corner) (n : ℕ) (rises : Rises stall_at n) (at : p ≡ point_at stall_at n) where
-  rate_at : p.rate ≡ n
-  rate_at = ap (λ (c : Corner). c.rate) at
+module _ (stall_at : ℕ → ℕ) (n stall : ℕ) (rises : Rises stall_at n) (at : stall ≡ stall_at n) where
+  -- the point at n
+  abbrev point : Corner
+  point = record { rate = n; stall = stall }
 
-  on_raw_lem : p.stall ≡ stall_at p.rate
-  on_raw_lem = rw at
-
-  rises_to : Rises stall_at p.rate
-  rises_to = rw at rises
-
-  stack_next : (s : List Corner) → StackBelow stall_at n s → Stack stall_at p (kept p s)
+  stack_next : (s : List Corner) → StackBelow stall_at n s → Stack stall_at point (kept point s)
   unfolding kept
-  stack_next [] h = (rate_at ∙ h, on_raw_lem ∙ ap stall_at (rate_at ∙ h))
-  stack_next (t ∷ s) h =
-      kept_stack stall_at p t s rises_to (open_first stall_at p t s h.1 (rate_at ∙ sym h.0) on_raw_lem)
+  stack_next [] h = (h, at ∙ ap stall_at h)
+  stack_next (t ∷ s) h = kept_stack stall_at point t s rises (open_first stall_at point t s h.1 (sym h.0) at)
 
-  ordered_next : (s : List Corner) → StackBelow stall_at n s → Ordered p s
+  ordered_next : (s : List Corner) → StackBelow stall_at n s → Ordered point s
   ordered_next [] h = tt
   ordered_next (t ∷ s) h =
-      let below : t.rate < p.rate = omega (arith, rate_at, h.0) in (
+      let below : t.rate < n = omega (arith, h.0) in (
         below,
-        omega (arith, on_raw_lem, top_on_raw stall_at t s h.1, rises_to t.rate p.rate (le_of_lt below) (le_refl p.rate)),
-        ordered_stack stall_at p.rate t s rises_to (le_of_lt below) h.1,
+        omega (arith, at, top_on_raw stall_at t s h.1, rises t.rate n (le_of_lt below) (le_refl n)),
+        ordered_stack stall_at n t s rises (le_of_lt below) h.1,
       )
 
   -- the point at n can be put on, where an envelope up to n has at most nine corners
   found_ready : (b : Block)
       → ((c : Curve) → Envelope stall_at n c → length c.rest < 9)
       → Found stall_at n b
-      → Ready p b.rates b.stalls b.count
+      → Ready point b.corners b.count
   found_ready b few f =
-      let stack : Stack stall_at p (kept p (stack_in b)) = stack_next (stack_in b) f.stack in
-      let curve : Curve = turned p (kept p (stack_in b)) [] in
-      let envelope : Envelope stall_at n curve =
-      subst (λ (q : ℕ). Envelope stall_at q curve) rate_at (stack_envelope stall_at p (kept p (stack_in b)) stack) in
+      let stays = kept point (stack_in b) in
+      let envelope = stack_envelope stall_at point stays (stack_next (stack_in b) f.stack) in
       record {
-        rates = f.rates;
-        stalls = f.stalls;
+        nine = f.nine;
         ordered = ordered_next (stack_in b) f.stack;
-        room = omega (arith, turned_length p (kept p (stack_in b)) [], few curve envelope);
+        room = omega (arith, turned_length point stays [], few (turned point stays []) envelope);
       }
 
   -- and then the walk has come one rate further
-  found_next : (b r : Block) → Found stall_at n b → WithCorner p b r → Found stall_at (n + 1) r
-  found_next b r f h =
-      record {
-        rates = h.rates;
-        stalls = h.stalls;
-        stack = rw h.stack (ap (λ (k : ℕ). k + 1) rate_at, stack_next (stack_in b) f.stack);
-      }
+  found_next : (b r : Block) → Found stall_at n b → WithCorner point b r → Found stall_at (n + 1) r
+  found_next b r f h = record { nine = h.nine; stack = rw h.stack (refl, stack_next (stack_in b) f.stack) }
 
-module _
-    (per_period core : ℕ)
-    (row : List ℕ)
-    (i : Interval per_period core row)
-    (p : Corner)
-    (r : ℕ)
-    (within : r ≤ budget_of core row)
-    (at : p ≡ point_at (raw per_period row core) r)
-  where
+module _ {per_period core : ℕ} {row : List ℕ} (i : Interval per_period core row) where
+  -- a turn at a rate up to the core's budget
+  module _ {r q stall : ℕ} (own : q ≡ budget_of core row) (within : r ≤ q) (at : stall ≡ raw per_period row core r) where
+    inside : r ≤ budget_of core row
+    inside = omega arith
+
     rises_below : Rises (raw per_period row core) r
-    rises_below a b up last = raw_rises per_period row core i.whole.sums a b up (le_trans last within)
+    rises_below a b up last = raw_rises per_period row core i.whole.sums a b up (le_trans last inside)
 
-    -- a point of the raw stall up to the core's budget is a corner that a block has room for
-    pub point_small : Small p
-    point_small =
-        let room = raw_le per_period row core i.whole.sums r within in
-        let rate = ap (λ (c : Corner). c.rate) at in
-        let stall = ap (λ (c : Corner). c.stall) at in
-        record { rate = omega (arith, i.slots); stall = omega (arith, i.slots) }
+    -- rate and stall are of one period
+    pub walk_small : (r ≤ 65_535) × (stall ≤ 65_535)
+    walk_small =
+        let room = raw_le per_period row core i.whole.sums r inside in
+        (omega (arith, i.slots), omega (arith, i.slots))
 
-    -- it can be put on: there are at most as many segments as cores
-    pub walk_ready : (b : Block) → Found (raw per_period row core) r b → Ready p b.rates b.stalls b.count
-    walk_ready b =
-        found_ready (raw per_period row core) p r rises_below at b
-        (λ c e. omega (arith, i.cores, at_most_cores per_period row core r c i.whole.sums within e))
+    -- the point of the raw stall can be put on: there are at most as many segments as cores
+    pub walk_ready : {b : Block}
+        → Found (raw per_period row core) r b
+        → Ready (record { rate = r; stall = stall }) b.corners b.count
+    walk_ready {b} =
+        found_ready (raw per_period row core) r stall rises_below at b
+        (λ c e. omega (arith, i.cores, at_most_cores per_period row core r c i.whole.sums inside e))
 
     -- and then the walk over the interval has come one rate further
-    pub walk_next : (b b' : Block)
+    pub walk_next : {b b' : Block}
         → Found (raw per_period row core) r b
-        → WithCorner p b b'
+        → WithCorner (record { rate = r; stall = stall }) b b'
         → Found (raw per_period row core) (r + 1) b'
-    walk_next = found_next (raw per_period row core) p r rises_below at
+    walk_next {b} {b'} = found_next (raw per_period row core) r stall rises_below at b b'

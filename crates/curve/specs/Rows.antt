@@ -1,6 +1,6 @@
 -- The raw stall as it is summed: over the whole row, less the part of the core itself.
-use Rattle.std.specs.Prelude.{◌≡◌, List, [], ◌∷◌, ℕ, zero, suc, ◌+◌, ◌-◌, ◌≤◌, ◌<◌, min, length, get_or, drop}
-use Rattle.std.proofs.Common.{le_of_suc-le-suc, arith, add-one, drop_of_length-le, drop-cons}
+use Rattle.std.specs.Prelude.{◌≡◌, List, [], ◌∷◌, ℕ, zero, suc, ◌+◌, ◌-◌, ◌≤◌, ◌<◌, min, length, get_or}
+use Rattle.std.proofs.Common.{le_of_suc-le-suc, arith}
 use Rattle.meaning.specs.Plan.{most_cores, most_per_period, sum_of, budget_of}
 use Rattle.meaning.specs.Curve.{others, sum_of_smaller, raw}
 use Rattle.curve_laws.specs.RawStall.{others_sum, raw_below, raw_full}
@@ -33,18 +33,6 @@ interval_of_lem m per_period core row cores few sums slots first last =
       cores = omega arith;
     }
 
--- the smaller ones from place i on: the one at i, and those after it
-pub smaller_from : (r i : ℕ) (row : List ℕ)
-    → i < length row
-    → sum_of_smaller r (drop i row) ≡ min r (get_or row i 0) + sum_of_smaller r (drop (i + 1) row)
-unfolding sum_of_smaller
-smaller_from r i row h = rw (add-one, drop-cons row i 0 h)
-
--- from the end on there is none
-pub smaller_past_end : (r i : ℕ) (row : List ℕ) → length row ≤ i → sum_of_smaller r (drop i row) ≡ 0
-unfolding sum_of_smaller
-smaller_past_end r i row h = rw (drop_of_length-le row h)
-
 -- the other cores' part of the sum and the core's own make up the whole
 smaller_others : (r i : ℕ) (row : List ℕ)
     → i < length row
@@ -54,20 +42,27 @@ smaller_others r i [] h = omega arith
 smaller_others r zero (b ∷ bs) h = omega arith
 smaller_others r (suc i) (b ∷ bs) h = omega (arith, smaller_others r i bs (le_of_suc-le-suc h))
 
-module _ (per_period core : ℕ) (row : List ℕ) (r q : ℕ) (whole : Whole per_period core row) (own : q ≡ budget_of core row) where
+module _ {per_period core : ℕ} {row : List ℕ} (whole : Whole per_period core row) where
   in_row : core - 1 < length row
   in_row = omega (arith, whole.first, whole.last)
 
   -- below the core's budget its own part of the sum is the rate itself, and the raw stall is what is left
-  pub raw_of_sum : (sum : ℕ) → r < q → sum ≡ sum_of_smaller r row → (r ≤ sum) × (sum - r ≡ raw per_period row core r)
-  raw_of_sum sum below e =
+  pub raw_of_sum : {r q sum : ℕ}
+      → q ≡ budget_of core row
+      → r < q
+      → sum ≡ sum_of_smaller r row
+      → (r ≤ sum) × (sum - r ≡ raw per_period row core r)
+  raw_of_sum {r} own below e =
       let others = smaller_others r (core - 1) row in_row in
       let stall = raw_below per_period row core r (omega arith) in
       (omega arith, omega arith)
 
   -- from the core's budget on the raw stall is what the budget leaves of the period
-  pub raw_of_rest : q ≤ r → (q ≤ per_period) × (per_period - q ≡ raw per_period row core r)
-  raw_of_rest full =
+  pub raw_of_rest : {r q : ℕ}
+      → q ≡ budget_of core row
+      → q ≤ r
+      → (q ≤ per_period) × (per_period - q ≡ raw per_period row core r)
+  raw_of_rest {r} own full =
       let all = others_sum (core - 1) row in_row in
       let stall = raw_full per_period row core r (omega arith) in
       (omega (arith, whole.sums), omega arith)

@@ -1,6 +1,6 @@
 -- The two definitions of lawful runs say the same, so every run that is lawful by number ends within the span.
 use Rattle.std.specs.Prelude.{◌≡◌, refl, List, [], ◌∷◌, ℕ, zero, suc, ◌+◌, ◌≤◌, ◌<◌, length, get_or}
-use Rattle.std.proofs.Common.{sym, ap, subst, le_of_suc-le-suc, not-suc-le-zero, add-zero, arith}
+use Rattle.std.proofs.Common.{ap, add-zero, arith}
 use Rattle.meaning.specs.Plan.{Plan, Workload, in_force}
 use Rattle.meaning.specs.Run.{Period, used, Allowed, LawfulFrom, Lawful, EndsWithin}
 use Rattle.meaning.specs.Promises.{SpanFigures, SpanPromise}
@@ -14,25 +14,19 @@ record ByNumber (p : Plan) (core k : ℕ) (ds : List Period) : Type 0 where
   room : (i : ℕ) → suc i ≡ length ds → used (get_or ds i idle) ≤ p.per_period
   works : (i : ℕ) → suc i ≡ length ds → 1 ≤ (get_or ds i idle).computing + (get_or ds i idle).requests
 
-first_allowed : (p : Plan) (core k : ℕ) (d : Period) → Allowed p.per_period core (in_force p (k + 0)) d → Allowed p.per_period core (in_force p k) d
-first_allowed p core k d = subst (λ (n : ℕ). Allowed p.per_period core (in_force p n) d) (add-zero k)
+one_later : (k i : ℕ) → k + suc i ≡ suc k + i
+one_later k i = omega arith
 
 -- what holds by number holds period by period
 lawful_from : (p : Plan) (core k : ℕ) (ds : List Period) → ByNumber p core k ds → LawfulFrom p core k ds
 lawful_from p core k [] h = tt
-lawful_from p core k (d ∷ []) h = (first_allowed p core k d (h.allowed 0 (omega arith)), h.room 0 refl, h.works 0 refl)
+lawful_from p core k (d ∷ []) h = (rw (add-zero k) at (h.allowed 0 (omega arith)), h.room 0 refl, h.works 0 refl)
 lawful_from p core k (d ∷ e ∷ ds) h = (
-  first_allowed p core k d (h.allowed 0 (omega arith)),
+  rw (add-zero k) at (h.allowed 0 (omega arith)),
   h.whole 0 (omega arith),
   lawful_from p core (suc k) (e ∷ ds)
       (record {
-        allowed =
-            λ i inside.
-            let later : k + suc i ≡ suc k + i = omega arith in
-            subst
-            (λ (n : ℕ). Allowed p.per_period core (in_force p n) (get_or (e ∷ ds) i idle))
-            later
-            (h.allowed (suc i) (omega (arith, inside)));
+        allowed = λ i inside. rw (one_later k i) at (h.allowed (suc i) (omega (arith, inside)));
         whole = λ i inside. h.whole (suc i) (omega (arith, inside));
         room = λ i last. h.room (suc i) (ap suc last);
         works = λ i last. h.works (suc i) (ap suc last);
@@ -56,66 +50,45 @@ lawful_by_number p w run h =
       requests = h.requests;
     }
 
--- a run of one period
-last_period : (p : Plan) (core k : ℕ) (d : Period) → LawfulFrom p core k (d ∷ []) → ByNumber p core k (d ∷ [])
-last_period p core k d h =
-    record {
-      allowed = allowed;
-      whole = λ i inside. absurd (not-suc-le-zero (le_of_suc-le-suc inside));
-      room = room;
-      works = works;
-    }
-  where
-    allowed : (i : ℕ) → i < 1 → Allowed p.per_period core (in_force p (k + i)) (get_or (d ∷ []) i idle)
-    allowed zero inside = subst (λ (n : ℕ). Allowed p.per_period core (in_force p n) d) (sym (add-zero k)) h.0
-    allowed (suc i) inside = absurd (not-suc-le-zero (le_of_suc-le-suc inside))
-
-    room : (i : ℕ) → suc i ≡ 1 → used (get_or (d ∷ []) i idle) ≤ p.per_period
-    room zero last = h.1
-    room (suc i) last = absurd (omega (arith, last))
-
-    works : (i : ℕ) → suc i ≡ 1 → 1 ≤ (get_or (d ∷ []) i idle).computing + (get_or (d ∷ []) i idle).requests
-    works zero last = h.2
-    works (suc i) last = absurd (omega (arith, last))
-
--- a full period before others
-one_period_more : (p : Plan) (core k : ℕ) (d e : Period) (ds : List Period)
+-- a period before others is full, and one before none has room and works
+period_before : (p : Plan) (core k : ℕ) (d : Period) (ds : List Period)
     → Allowed p.per_period core (in_force p k) d
-    → used d ≡ p.per_period
-    → ByNumber p core (suc k) (e ∷ ds)
-    → ByNumber p core k (d ∷ e ∷ ds)
-one_period_more p core k d e ds here full later =
+    → (0 < length ds → used d ≡ p.per_period)
+    → (0 ≡ length ds → (used d ≤ p.per_period) × (1 ≤ d.computing + d.requests))
+    → ByNumber p core (suc k) ds
+    → ByNumber p core k (d ∷ ds)
+period_before p core k d ds here full last later =
     record { allowed = allowed; whole = whole; room = room; works = works }
   where
-    allowed : (i : ℕ) → i < length (d ∷ e ∷ ds) → Allowed p.per_period core (in_force p (k + i)) (get_or (d ∷ e ∷ ds) i idle)
-    allowed zero inside = subst (λ (n : ℕ). Allowed p.per_period core (in_force p n) d) (sym (add-zero k)) here
-    allowed (suc i) inside =
-        let after : suc k + i ≡ k + suc i = omega arith in
-        subst (λ (n : ℕ). Allowed p.per_period core (in_force p n) (get_or (e ∷ ds) i idle)) after (later.allowed i (le_of_suc-le-suc inside))
+    allowed : (i : ℕ) → i < length (d ∷ ds) → Allowed p.per_period core (in_force p (k + i)) (get_or (d ∷ ds) i idle)
+    allowed zero inside = rw (add-zero k) here
+    allowed (suc i) inside = rw (one_later k i) (later.allowed i (omega (arith, inside)))
 
-    whole : (i : ℕ) → suc i < length (d ∷ e ∷ ds) → used (get_or (d ∷ e ∷ ds) i idle) ≡ p.per_period
-    whole zero inside = full
-    whole (suc i) inside = later.whole i (le_of_suc-le-suc inside)
+    whole : (i : ℕ) → suc i < length (d ∷ ds) → used (get_or (d ∷ ds) i idle) ≡ p.per_period
+    whole zero inside = full (omega (arith, inside))
+    whole (suc i) inside = later.whole i (omega (arith, inside))
 
-    room : (i : ℕ) → suc i ≡ length (d ∷ e ∷ ds) → used (get_or (d ∷ e ∷ ds) i idle) ≤ p.per_period
-    room zero last = absurd (omega (arith, last))
-    room (suc i) last = later.room i (omega (arith, last))
+    room : (i : ℕ) → suc i ≡ length (d ∷ ds) → used (get_or (d ∷ ds) i idle) ≤ p.per_period
+    room zero end = (last (omega (arith, end))).0
+    room (suc i) end = later.room i (omega (arith, end))
 
-    works : (i : ℕ) → suc i ≡ length (d ∷ e ∷ ds) → 1 ≤ (get_or (d ∷ e ∷ ds) i idle).computing + (get_or (d ∷ e ∷ ds) i idle).requests
-    works zero last = absurd (omega (arith, last))
-    works (suc i) last = later.works i (omega (arith, last))
+    works : (i : ℕ) → suc i ≡ length (d ∷ ds) → 1 ≤ (get_or (d ∷ ds) i idle).computing + (get_or (d ∷ ds) i idle).requests
+    works zero end = (last (omega (arith, end))).1
+    works (suc i) end = later.works i (omega (arith, end))
 
 -- what holds period by period holds by number
 by_number : (p : Plan) (core k : ℕ) (ds : List Period) → LawfulFrom p core k ds → ByNumber p core k ds
 by_number p core k [] h =
     record {
-      allowed = λ i inside. absurd (not-suc-le-zero inside);
-      whole = λ i inside. absurd (not-suc-le-zero inside);
+      allowed = λ i inside. absurd (omega (arith, inside));
+      whole = λ i inside. absurd (omega (arith, inside));
       room = λ i last. absurd (omega (arith, last));
       works = λ i last. absurd (omega (arith, last));
     }
-by_number p core k (d ∷ []) h = last_period p core k d h
-by_number p core k (d ∷ e ∷ ds) h = one_period_more p core k d e ds h.0 h.1 (by_number p core (suc k) (e ∷ ds) h.2)
+by_number p core k (d ∷ []) h =
+    period_before p core k d [] h.0 (λ more. absurd (omega (arith, more))) (λ none. (h.1, h.2)) (by_number p core (suc k) [] tt)
+by_number p core k (d ∷ e ∷ ds) h =
+    period_before p core k d (e ∷ ds) h.0 (λ more. h.1) (λ none. absurd (omega (arith, none))) (by_number p core (suc k) (e ∷ ds) h.2)
 
 -- and a lawful run is such a run: the two definitions say the same
 pub lawful_is_by_number : (p : Plan) (w : Workload) (run : List Period) → Lawful p w run → LawfulByNumber p w run

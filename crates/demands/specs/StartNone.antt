@@ -61,52 +61,45 @@ pub record AnsweredSame (p : Plan) : Type 0 where
 pub start_none_judged : (p : Plan) → JudgedSame p
 start_none_judged p = record { placement = none_placement p; span = none_span p }
 
+-- what is said of one of two equal values is said of the other
+both_ways : {A : Type 0} (P : A → Type 0) {a b : A} → a ≡ b → P a ↔ P b
+both_ways P e = (subst P e, subst P (sym e))
+
 -- and of every plan that is not refused
 pub start_none_same : (p : Plan) → plan_refusal p ≡ 0 → AnsweredSame p
 start_none_same p plan =
     let same : (n : ℕ) → shares_from p 0 n ≡ shares_at p n = λ n. plan_start_none p n (sound_plan p plan) in
     let at : (w : Workload) (n : ℕ) → w.start ≡ 0 → shares_from p w.start n ≡ shares_at p n =
     λ w n none. ap (λ (s : ℕ). shares_from p s n) none ∙ same n in
-    let to : (w : Workload) (n : ℕ) (f : Fraction) → w.start ≡ 0 → StallAt p w n f → StallBefore p w n f =
-    λ w n f none. subst (λ (ws : List ℕ). GreatestStall p w.core w.requests ws f) (at w n none) in
-    let back : (w : Workload) (n : ℕ) (f : Fraction) → w.start ≡ 0 → StallBefore p w n f → StallAt p w n f =
-    λ w n f none. subst (λ (ws : List ℕ). GreatestStall p w.core w.requests ws f) (sym (at w n none)) in
+    let stall : (w : Workload) (n : ℕ) (f : Fraction) → w.start ≡ 0 → StallAt p w n f ↔ StallBefore p w n f =
+    λ w n f none. both_ways (λ (ws : List ℕ). GreatestStall p w.core w.requests ws f) (at w n none) in
     let limit : (w : Workload) → w.start ≡ 0 → most_span p w.start ≡ span_limit p.repeating (periods p) =
     λ w none. ap (most_span p) none ∙ none_limit p in
+    let most : (w : Workload) (run : List Period) → w.start ≡ 0 → (length run ≤ most_span p w.start) ↔ (length run ≤ span_limit p.repeating (periods p)) =
+    λ w run none. both_ways (λ (most : ℕ). length run ≤ most) (limit w none) in
+    let lawful : (w : Workload) (run : List Period) → w.start ≡ 0 → LawfulFrom p w.core w.start run ↔ LawfulFrom p w.core 0 run =
+    λ w run none. both_ways (λ (k : ℕ). LawfulFrom p w.core k run) none in
     record {
       shares = same;
-      placement =
-          λ core requests n xs stall. (
-            subst (λ (ws : List ℕ). AnsweredWith p core requests ws xs stall) (same n),
-            subst (λ (ws : List ℕ). AnsweredWith p core requests ws xs stall) (sym (same n)),
-          );
-      placed =
-          λ w n xs stall none. (
-            subst (λ (ws : List ℕ). AnsweredWith p w.core w.requests ws xs stall) (at w n none),
-            subst (λ (ws : List ℕ). AnsweredWith p w.core w.requests ws xs stall) (sym (at w n none)),
-          );
-      stall = λ w n f none. (to w n f none, back w n f none);
+      placement = λ core requests n xs stall. both_ways (λ (ws : List ℕ). AnsweredWith p core requests ws xs stall) (same n);
+      placed = λ w n xs stall none. both_ways (λ (ws : List ℕ). AnsweredWith p w.core w.requests ws xs stall) (at w n none);
+      stall = stall;
       holds =
           λ w n none. (
-            λ h. (h.stall, to w n h.stall none h.greatest, h.enough),
-            λ h. record { stall = h.0; greatest = back w n h.0 none h.1; enough = h.2 },
+            λ h. (h.stall, (stall w n h.stall none).0 h.greatest, h.enough),
+            λ h. record { stall = h.0; greatest = (stall w n h.0 none).1 h.1; enough = h.2 },
           );
       term =
           λ w n next none. (
-            λ h. (h.stall, to w n h.stall none h.greatest, h.rounded),
-            λ h. record { stall = h.0; greatest = back w n h.0 none h.1; rounded = h.2 },
+            λ h. (h.stall, (stall w n h.stall none).0 h.greatest, h.rounded),
+            λ h. record { stall = h.0; greatest = (stall w n h.0 none).1 h.1; rounded = h.2 },
           );
       runs =
           λ w run none. (
-            λ h. (
-              subst (λ (most : ℕ). length run ≤ most) (limit w none) h.within,
-              subst (λ (k : ℕ). LawfulFrom p w.core k run) none h.period_by_period,
-              h.computing,
-              h.requests,
-            ),
+            λ h. ((most w run none).0 h.within, (lawful w run none).0 h.period_by_period, h.computing, h.requests),
             λ h. record {
-              within = subst (λ (most : ℕ). length run ≤ most) (sym (limit w none)) h.0;
-              period_by_period = subst (λ (k : ℕ). LawfulFrom p w.core k run) (sym none) h.1;
+              within = (most w run none).1 h.0;
+              period_by_period = (lawful w run none).1 h.1;
               computing = h.2;
               requests = h.3;
             },

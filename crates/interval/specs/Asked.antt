@@ -1,43 +1,42 @@
 -- The two one-interval questions, judged: what a sound interval gives the functions of `curve`, and what each answer promises.
-use Rattle.std.specs.Prelude.{◌≡◌, true, false, cond, List, [], ◌∷◌, length, take, replicate, leb, ltb}
+use Rattle.std.specs.Prelude.{◌≡◌, Result, Ok, Err, true, cond, List, [], ◌∷◌, length, take, replicate, leb, ltb}
 use Rattle.std.proofs.Math.Path.{refl, sym, ap}
 use Rattle.std.proofs.Common.{◌∙◌, arith, take_at, le-leb, lt-ltb, le-ltb}
 use Prim.Native.Nat.{ℕ, ◌-◌, ◌≤◌, ◌<◌}
 use Rattle.std.proofs.lemmas.List.{length-map}
-use Rattle.std.proofs.lemmas.Bool.{lt-leb}
 use Rattle.meaning.specs.Plan.{Plan, budget_of}
 use Rattle.meaning.specs.Curve.{Corner, Curve, raw, rates, count}
 use Rattle.meaning.specs.Refusals.{◌before◌, refused_if, plan_refusal, core_refusal, raw_refusal, corners_refusal, one_interval}
-use Rattle.meaning.specs.Promises.{RawPromise, CornersFigures, corners_in_room, CornersPromise, written}
+use Rattle.meaning.specs.Promises.{RawPromise, CornersFigures, corners_in_room, written}
 use Rattle.plan_laws.specs.RefusalOrder.{before_assoc, judged_refused}
 use Rattle.curve_laws.specs.CurveQuestions.{sound_one}
-use Rattle.units.specs.Given.{plan_of}
+use Rattle.units.specs.Given.{plan_with}
 use Rattle.units.specs.Refusals.{number_of}
 use Rattle.units.specs.declared.Head.{Head}
 use Rattle.units.specs.declared.Refusal.{Refusal}
+use Rattle.units.specs.declared.Periods.{Periods}
 use Rattle.judge.specs.Judged.{CoreJudged, refused_before}
-use Rattle.judge.specs.declared.Judgement.{Judgement}
-use Rattle.curve.specs.Figures.{InBlock, HoldsEnvelope}
+use Rattle.curve.specs.Figures.{rates_of, InBlock}
 use Rattle.curve.specs.Rows.{Interval, interval_of_lem}
-use Rattle.units.specs.declared.Block.{Block}
+use Rattle.units.specs.declared.corner.Block.{Block}
 
 -- one interval of one period and the core, judged: sound, as the functions of `curve` want it, or refused with this number
-abbrev pub OneJudged : ℕ → ℕ → List ℕ → ℕ → Judgement → Type 0
-OneJudged m per_period budgets core (Judgement.Sound t) =
+abbrev pub OneJudged : ℕ → ℕ → List ℕ → ℕ → Result Periods Refusal → Type 0
+OneJudged m per_period budgets core (Ok t) =
     (corners_refusal m per_period budgets core ≡ 0) × Interval per_period core budgets
-OneJudged m per_period budgets core (Judgement.Refused f) = corners_refusal m per_period budgets core ≡ number_of f
+OneJudged m per_period budgets core (Err f) = corners_refusal m per_period budgets core ≡ number_of f
 
 -- the judgement of the plan that has this one interval; a mark is not judged
-pub one_judged : (head : Head) (budgets : List ℕ) (core : ℕ) (j : Judgement)
-    → CoreJudged (plan_of head (1 ∷ []) budgets) core j
+pub one_judged : (head : Head) (budgets : List ℕ) (core : ℕ) (j : Result Periods Refusal)
+    → CoreJudged (plan_with head (1 ∷ []) budgets) core j
     → OneJudged head.cores head.per_period.0 budgets core j
 unfolding corners_refusal plan_refusal core_refusal
-one_judged head budgets core (Judgement.Sound t) h =
+one_judged head budgets core (Ok t) h =
     let m = head.cores in
     let per_period = head.per_period.0 in
     let s = sound_one m per_period budgets core h.0 in
     (h.0, interval_of_lem m per_period core budgets s.cores s.few_cores s.sum s.few_slots s.first s.last)
-one_judged head budgets core (Judgement.Refused f) h = h
+one_judged head budgets core (Err f) h = h
 
 module _ (m per_period : ℕ) (budgets : List ℕ) (core r : ℕ) where
   -- raw stall at r is refused as the interval and the core are
@@ -82,40 +81,15 @@ RatesWritten b place a after =
     → (a ≡ corners_in_room c (leb (count c) (length place)))
     × (after ≡ cond (leb (count c) (length place)) (written (rates c) place) place)
 
--- 11: the place is shorter than the count, and is kept
-pub rates_no_room : (b : Block) (place : List ℕ)
-    → length place < b.count
-    → RatesWritten b place (record { refused = 11; count = 0 }) place
-rates_no_room b place short c holds =
-    let no_room : leb (count c) (length place) ≡ false =
-    lt-leb (count c) (length place) (omega (arith, holds.count)) in
-    rw no_room (refl, refl)
-
 -- the first numbers of the block's rates, as many as it has corners, are written
 pub rates_fit : (b : Block) (place after : List ℕ)
     → b.count ≤ length place
-    → after ≡ written (take b.count b.rates) place
+    → after ≡ written (take b.count (rates_of b)) place
     → RatesWritten b place (record { refused = 0; count = b.count }) after
 rates_fit b place after fits is c holds =
     let room : leb (count c) (length place) ≡ true =
     le-leb (count c) (length place) (omega (arith, holds.count)) in
     let long : length (rates c) ≡ b.count = omega (arith, length-map c.rest (λ (k : Corner). k.rate), holds.count) in
-    let all : take b.count b.rates ≡ rates c =
+    let all : take b.count (rates_of b) ≡ rates c =
     ap (take b.count) holds.rates ∙ take_at (rates c) (replicate (9 - length (rates c)) 0) b.count long in
     rw room (λ i. record { refused = 0; count = holds.count i }, is ∙ ap (λ (ns : List ℕ). written ns place) all)
-
-module _ (m per_period : ℕ) (budgets : List ℕ) (core : ℕ) (place : List ℕ) where
-  -- corners for one interval are refused as the interval and the core are, and the place is kept
-  pub corners_as_judged : (f : Refusal)
-      → corners_refusal m per_period budgets core ≡ number_of f
-      → CornersPromise m per_period budgets core place (record { refused = number_of f; count = 0 }) place
-  corners_as_judged f e =
-      judged_refused _ _ (number_of f) (corners_refusal m per_period budgets core) (refused_before f 1 refl) e (refl, refl)
-
-  -- the corners of a sound interval are answered as their rates are written
-  pub corners_written : (b : Block) (a : CornersFigures) (after : List ℕ)
-      → corners_refusal m per_period budgets core ≡ 0
-      → HoldsEnvelope per_period core budgets b
-      → RatesWritten b place a after
-      → CornersPromise m per_period budgets core place a after
-  corners_written b a after e (c, envelope, holds) h = rw e (c, envelope, (h c holds).0, (h c holds).1)

@@ -1,17 +1,22 @@
 -- What a judgement says in the paper's numbers.
-use Rattle.std.specs.Prelude.{◌≡◌, refl, Bool, true, false, not, ◌||◌, List, ℕ, zero, suc, ◌+◌, ◌*◌, ◌≤◌, length, eqb}
+use Rattle.std.specs.Prelude.{◌≡◌, refl, Result, Ok, Err, Bool, true, false, not, ◌||◌, List, ℕ, zero, suc, ◌+◌, ◌*◌, ◌≤◌, length, eqb}
 use Rattle.std.proofs.Common.{arith}
 use Rattle.meaning.specs.Plan.{Plan, sum_of, intervals, periods, rows, most_cores, most_per_period, most_intervals}
 use Rattle.meaning.specs.Refusals.{◌before◌, refused_if, outside, cores_refusal, per_period_refusal, intervals_outside, interval_refusal, intervals_refusal, plan_refusal, core_refusal}
 use Rattle.plan_laws.specs.RefusalOrder.{first_zero, second_zero, given_first, not_broken, inside}
 use Rattle.units.specs.Refusals.{number_of, some_number}
 use Rattle.units.specs.declared.Refusal.{Refusal}
-use Rattle.judge.specs.declared.Judgement.{Judgement}
+use Rattle.units.specs.declared.Periods.{Periods}
 
--- a judgement gives this refusal's number, or 0 with all periods together
-abbrev pub Judged : ℕ → ℕ → Judgement → Type 0
-Judged number total (Judgement.Sound t) = (number ≡ 0) × (t.0 ≡ total)
-Judged number total (Judgement.Refused f) = number ≡ number_of f
+-- what is judged has this refusal's number, or 0
+abbrev pub Passed : ℕ → Result Unit Refusal → Type 0
+Passed number (Ok t) = number ≡ 0
+Passed number (Err f) = number ≡ number_of f
+
+-- what is judged has this refusal's number, or 0 with all periods together
+abbrev pub Judged : ℕ → ℕ → Result Periods Refusal → Type 0
+Judged number total (Ok t) = (number ≡ 0) × (t.0 ≡ total)
+Judged number total (Err f) = number ≡ number_of f
 
 -- 1, 2, then 3 for the number of intervals
 abbrev pub bounds_refusal : ℕ → ℕ → ℕ → ℕ
@@ -19,16 +24,16 @@ bounds_refusal m per_period n =
     cores_refusal m before per_period_refusal per_period before refused_if (intervals_outside n) 3
 
 -- an interval of so many periods whose budgets have this sum, after so many periods: 4 before 5
-abbrev pub IntervalJudged : ℕ → ℕ → ℕ → ℕ → Judgement → Type 0
+abbrev pub IntervalJudged : ℕ → ℕ → ℕ → ℕ → Result Periods Refusal → Type 0
 IntervalJudged per_period so_far l sum r =
     (row : List ℕ) → sum_of row ≡ sum → Judged (interval_refusal per_period so_far l row) (so_far + l) r
 
 -- a plan judged by itself: 1 to 5
-abbrev pub PlanJudged : Plan → Judgement → Type 0
+abbrev pub PlanJudged : Plan → Result Periods Refusal → Type 0
 PlanJudged p r = Judged (plan_refusal p) (periods p) r
 
 -- a plan and the core under analysis: 1 to 6
-abbrev pub CoreJudged : Plan → ℕ → Judgement → Type 0
+abbrev pub CoreJudged : Plan → ℕ → Result Periods Refusal → Type 0
 CoreJudged p core r = Judged (plan_refusal p before core_refusal p core) (periods p) r
 
 -- a refusal that is given is given before any later one

@@ -1,20 +1,20 @@
 -- What the answer of a checked maker says of its number.
-use Rattle.std.specs.Prelude.{◌≡◌, refl, ℕ, zero, suc, ◌≤◌, ◌<◌}
+use Rattle.std.specs.Prelude.{◌≡◌, refl, Option, Some, None, ℕ, zero, suc, ◌≤◌, ◌<◌}
 use Rattle.std.proofs.Common.{⊎_elim, arith, le-leb}
 use Rattle.std.proofs.Math.Dec.{eqb-suc-zero}
 use Rattle.std.proofs.lemmas.Bool.{lt-leb}
 use Rattle.units.specs.Units.{slots_of, periods_of, requests_of, per_period_of}
-use Rattle.units.specs.declared.MadePeriods.{MadePeriods}
-use Rattle.units.specs.declared.MadeSlots.{MadeSlots}
-use Rattle.units.specs.declared.MadeRequests.{MadeRequests}
+use Rattle.units.specs.declared.Periods.{Periods}
+use Rattle.units.specs.declared.Slots.{Slots}
+use Rattle.units.specs.declared.Requests.{Requests}
 use Rattle.meaning.specs.Plan.{most_per_period, most_periods, most_work}
 use Rattle.meaning.specs.Refusals.{per_period_refusal}
 use Rattle.number_laws.specs.Order.{le_or_lt}
 
 -- n periods that were made, or were not
-abbrev pub PeriodsMade : ℕ → MadePeriods → Type 0
-PeriodsMade n (MadePeriods.Within t) = (n ≤ most_periods) × (t.0 ≡ n)
-PeriodsMade n MadePeriods.Outside = most_periods < n
+abbrev pub PeriodsMade : ℕ → Option Periods → Type 0
+PeriodsMade n (Some t) = (n ≤ most_periods) × (t.0 ≡ n)
+PeriodsMade n None = most_periods < n
 
 -- the maker of periods goes by their limit
 pub periods_made : (n : ℕ) → PeriodsMade n (periods_of n)
@@ -27,9 +27,9 @@ periods_made n = ⊎_elim within beyond (le_or_lt n most_periods)
     beyond h = rw (lt-leb n most_periods h) h
 
 -- n slots in a period that were made, or were not
-abbrev pub PerPeriodMade : ℕ → MadeSlots → Type 0
-PerPeriodMade n (MadeSlots.Within s) = per_period_refusal n ≡ 0
-PerPeriodMade n MadeSlots.Outside = per_period_refusal n ≡ 2
+abbrev pub PerPeriodMade : ℕ → Option Slots → Type 0
+PerPeriodMade n (Some s) = per_period_refusal n ≡ 0
+PerPeriodMade n None = per_period_refusal n ≡ 2
 
 -- the maker of the slots of a period refuses what 2 refuses
 pub per_period_made : (n : ℕ) → PerPeriodMade n (per_period_of n)
@@ -43,9 +43,9 @@ per_period_made (suc k) = ⊎_elim within beyond (le_or_lt (suc k) most_per_peri
     beyond h = simp (eqb-suc-zero k, le-leb 1 (suc k) (omega arith), lt-leb (suc k) most_per_period h)
 
 -- n slots that were made, or were not
-abbrev pub SlotsMade : ℕ → MadeSlots → Type 0
-SlotsMade n (MadeSlots.Within s) = (n ≤ most_work) × (s.0 ≡ n)
-SlotsMade n MadeSlots.Outside = most_work < n
+abbrev pub SlotsMade : ℕ → Option Slots → Type 0
+SlotsMade n (Some s) = (n ≤ most_work) × (s.0 ≡ n)
+SlotsMade n None = most_work < n
 
 -- the maker of slots goes by their limit
 pub slots_made : (n : ℕ) → SlotsMade n (slots_of n)
@@ -56,9 +56,9 @@ slots_made n =
     (le_or_lt n most_work)
 
 -- n requests that were made, or were not
-abbrev pub RequestsMade : ℕ → MadeRequests → Type 0
-RequestsMade n (MadeRequests.Within r) = n ≤ most_work
-RequestsMade n MadeRequests.Outside = most_work < n
+abbrev pub RequestsMade : ℕ → Option Requests → Type 0
+RequestsMade n (Some r) = n ≤ most_work
+RequestsMade n None = most_work < n
 
 -- the maker of requests goes by their limit
 pub requests_made : (n : ℕ) → RequestsMade n (requests_of n)

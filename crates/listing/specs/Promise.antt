@@ -1,10 +1,9 @@
 -- What a line promises: its text from the front of the lent place with the rest kept, or no room with the place kept.
-use Rattle.std.specs.Prelude.{◌≡◌, refl, Bool, true, false, ◌&&◌, List, [], ◌∷◌, ◌++◌, ℕ, ◌≤◌, length, drop, leb}
+use Rattle.std.specs.Prelude.{◌≡◌, Option, Some, None, Bool, true, false, ◌&&◌, List, [], ◌∷◌, ◌++◌, ℕ, ◌≤◌, length, drop, leb}
 use Rattle.std.proofs.Common.{ap, ◌∙◌, arith, length-append, length-drop}
-use Rattle.meaning.specs.Plan.{Plan, most_intervals}
+use Rattle.meaning.specs.Plan.{most_intervals}
 use Rattle.meaning.specs.Promises.{written}
-use Rattle.meaning.specs.Listing.{decimal, spaced, word_span, word_stall, word_rounds, plan_line, span_line}
-use Rattle.listing.specs.declared.Line.{Line}
+use Rattle.meaning.specs.Listing.{decimal, spaced, word_span, word_stall, word_rounds, span_line}
 
 -- room for the longest line: 64 requests of up to 10 digits, each after a space, and fewer than 100 bytes besides
 abbrev pub room : ℕ
@@ -15,13 +14,13 @@ abbrev pub room_for : ℕ → ℕ → Bool
 room_for numbers place = leb room place && leb numbers most_intervals
 
 -- what is promised of a line with this text, by whether there is room
-abbrev pub LinePromise : List ℕ → Bool → List ℕ → Line → List ℕ → Type 0
-LinePromise text true before answer after = (answer ≡ Line.Length (length text)) × (after ≡ written text before)
-LinePromise text false before answer after = (answer ≡ Line.NoRoom) × (after ≡ before)
+abbrev pub LinePromise : List ℕ → Bool → List ℕ → Option ℕ → List ℕ → Type 0
+LinePromise text true before answer after = (answer ≡ Some (length text)) × (after ≡ written text before)
+LinePromise text false before answer after = (answer ≡ None) × (after ≡ before)
 
 -- the length that is answered is within the place, which keeps its own length
 pub line_within : (text : List ℕ) (fits : Bool) (before after : List ℕ) {n : ℕ}
-    → LinePromise text fits before (Line.Length n) after
+    → LinePromise text fits before (Some n) after
     → length after ≡ length before
     → n ≤ length after
 line_within text true before after {n} p kept =
@@ -29,16 +28,6 @@ line_within text true before after {n} p kept =
     let whole = ap length p.1 ∙ length-append text (drop (length text) before) in
     omega (arith, whole, length-drop (length text) before)
 line_within text false before after {n} p kept = let never : ◌≡◌ {A = ℕ} 0 1 = cc p.0 in absurd (omega arith)
-
--- the plan's line, which shows no mark and no budgets
-abbrev pub plan_text : ℕ → ℕ → List ℕ → List ℕ
-plan_text m per_period lengths =
-    plan_line (record { cores = m; per_period = per_period; repeating = false; lengths = lengths; budgets = [] })
-
--- it is the line of any plan with these cores, slots per period and lengths
-pub plan_text_lem : (p : Plan) → plan_text p.cores p.per_period p.lengths ≡ plan_line p
-unfolding plan_line
-plan_text_lem p = refl
 
 -- what the line of a span has before its requests: the workload's number, and the span, stall and rounds, each after its word
 abbrev pub found_text : ℕ → ℕ → ℕ → ℕ → List ℕ

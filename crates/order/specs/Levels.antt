@@ -1,149 +1,135 @@
 -- Laws on a level: every two neighbouring groups merged into one.
-use Rattle.std.specs.Prelude.{◌≡◌, List, [], ℕ, suc, ◌+◌, ◌*◌, ◌≤◌, ◌<◌, min, length, get_or}
-use Rattle.std.proofs.Math.Path.{sym}
-use Rattle.std.proofs.Common.{ap, ap₂, ◌∙◌, subst, lt_of_lt_of_le, le_of_eq, eq-or-lt_of_le, le_of_suc-le-suc, not-suc-le-zero, arith}
-use Rattle.std.proofs.Math.Logic.{⊎_elim}
-use Rattle.std.proofs.Math.Nat.{mul-le-mul_right, min-eq_right, min-le_right}
-use Rattle.meaning.specs.Curve.{Curve}
-use Rattle.number_laws.specs.Order.{le_or_lt}
-use Rattle.placement_laws.specs.OrderMerged.{Up, merged, order_joined}
-use Rattle.segments.specs.Stored.{Starts}
-use Rattle.order.specs.Groups.{Joined, edge, group_of, MergedAt, Levelled, Grouped}
-use Rattle.segments.specs.Places.{between_none, between_same}
+use Rattle.std.specs.Prelude.{◌≡◌, refl, List, [], ◌∷◌, ◌++◌, ℕ, min, ◌+◌, ◌-◌, ◌≤◌, ◌<◌, length, get_or, take, drop}
+use Rattle.std.proofs.Common.{sym, ap, ap₂, ◌∙◌, arith}
+use Rattle.std.proofs.Math.Seq.{append_snoc}
+use Rattle.std.proofs.lemmas.List.{append-nil, length-append, length-map, length-take, length-drop, take-map, drop-map}
+use Rattle.meaning.specs.Plan.{sum_of}
+use Rattle.number_laws.specs.Lists.{sum_append}
+use Rattle.placement_laws.specs.Filling.{Pick}
+use Rattle.placement_laws.specs.OrderMerged.{merged, merged_none}
+use Rattle.segments.specs.Listed.{groups_of}
+use Rattle.segments.specs.Picks.{pick_of, picks_of}
+use Rattle.segments.specs.SegmentLists.{groups_push}
+use Rattle.segments.specs.declared.segment.Segment.{Segment}
+use Rattle.order.specs.Groups.{paired, Levelled}
 
--- a group of twice as many intervals begins where every second one does
-edge_double : (n width g : ℕ) → edge n (2 * width) g ≡ edge n width (2 * g)
-edge_double n width g =
-    let same : g * (2 * width) ≡ 2 * g * width = omega arith in
-    ap (λ (m : ℕ). min m n) same
-
--- and ends where the one after it does
-edge_double_next : (n width g : ℕ) → edge n (2 * width) (suc g) ≡ edge n width (suc (suc (2 * g)))
-edge_double_next n width g =
-    let same : suc g * (2 * width) ≡ suc (suc (2 * g)) * width = omega arith in
-    ap (λ (m : ℕ). min m n) same
-
--- the next edge, at most n
-edge_next : (n width g : ℕ) → min (edge n width g + width) n ≡ edge n width (suc g)
-edge_next n width g = omega arith
-
--- edges rise
-edge_rises : (n width g h : ℕ) → g ≤ h → edge n width g ≤ edge n width h
-edge_rises n width g h le = omega (arith, mul-le-mul_right width le)
-
--- a group past the last interval has no segment
-group_past : (n : ℕ) (starts : List ℕ) (width : ℕ) (picks : List ℕ) (g : ℕ) → n ≤ g * width → group_of n starts width picks g ≡ []
-group_past n starts width picks g past =
-    let next : n ≤ suc g * width = omega arith in
-    let edges : edge n width (suc g) ≡ edge n width g = min-eq_right next ∙ sym (min-eq_right past) in
-    between_none _ _ picks (le_of_eq (ap (λ (m : ℕ). get_or starts m 0) edges))
-
--- where a level stands: so many pairs of groups are merged
-pub record Partly (n : ℕ) (starts : List ℕ) (width : ℕ) (from to : List ℕ) (low : ℕ) : Type 0 where
-  pub long : length to ≡ 512
-  pub pairs : ℕ
-  pub reached : low ≡ edge n (2 * width) pairs
-  pub merges : (g : ℕ) → g < pairs → MergedAt n starts width from to g
+-- where a level stands: of the groups of before, those with the counts that are left are still to be merged
+pub record Levelling (before : List Segment) (counts : List ℕ) (after : List Segment) (later : List ℕ) (rest : List Segment) (left : List ℕ) : Type 0 where
+  pub long : length after + length rest ≡ length before
+  pub left_whole : sum_of left ≡ length rest
+  pub many : length later + length left ≤ length counts
+  pub whole : sum_of later ≡ length after
+  pub groups : groups_of later (picks_of after) ++ paired (groups_of left (picks_of rest)) ≡ paired (groups_of counts (picks_of before))
 
 -- none is merged yet
-pub partly_none : {n : ℕ} {starts : List ℕ} {width : ℕ} {from to : List ℕ} → length to ≡ 512 → Partly n starts width from to 0
-partly_none long =
-    record {
-      long = long;
-      pairs = 0;
-      reached = omega arith;
-      merges = λ g h. absurd (not-suc-le-zero h);
-    }
+pub levelling_none : {before : List Segment} {counts : List ℕ}
+    → sum_of counts ≡ length before
+    → Levelling before counts [] [] before counts
+unfolding groups_of
+levelling_none whole = record { long = omega arith; left_whole = whole; many = omega arith; whole = refl; groups = refl }
 
-module _ {n : ℕ} {starts : List ℕ} {width : ℕ} {from to : List ℕ} {low : ℕ} (places : Starts n starts)
-    (at : Partly n starts width from to low) where
-  -- the pairs end with the last interval at most
-  inside : low ≤ n
-  inside = subst (λ (m : ℕ). m ≤ n) (sym at.reached) (min-le_right _ n)
+-- the count of the first group of a pair
+abbrev pub first_count : List ℕ → ℕ
+first_count pair = get_or pair 0 0
 
-  -- what is merged stays
-  stays : (after : List ℕ) (middle high g : ℕ)
-      → Joined from to after (get_or starts low 0) middle high
-      → g < at.pairs
-      → MergedAt n starts width from after g
-  stays after middle high g joined before =
-      let end = edge n (2 * width) (suc g) in
-      let past : end ≤ low =
-      subst (λ (m : ℕ). end ≤ m) (sym at.reached) (edge_rises n (2 * width) (suc g) at.pairs before) in
-      let start = places.rising (edge n (2 * width) g) end (edge_rises n (2 * width) g (suc g) (omega arith)) (min-le_right _ n) in
-      between_same
-      (get_or starts (edge n (2 * width) g) 0)
-      (get_or starts end 0)
-      after
-      to
-      (λ k h. joined.kept.same k (lt_of_lt_of_le h (places.rising end low past inside)))
-      start
-      ∙ at.merges g before
+-- the count of the second one, 0 where there is none
+abbrev pub second_count : List ℕ → ℕ
+second_count pair = get_or pair 1 0
 
+-- the next two counts, or the last one
+abbrev pub NextPair : List ℕ → List ℕ → Type 0
+NextPair pair others = (0 < length (pair ++ others)) × (length pair ≡ min 2 (length (pair ++ others)))
+
+-- the next pair merged, and what is left
+pair_next : (pair others : List ℕ) (xs : List Pick)
+    → NextPair pair others
+    → paired (groups_of (pair ++ others) xs)
+    ≡ merged (take (first_count pair) xs) (take (second_count pair) (drop (first_count pair) xs))
+    ∷ paired (groups_of others (drop (second_count pair) (drop (first_count pair) xs)))
+unfolding groups_of paired
+pair_next [] others xs next = absurd (omega (arith, next.0, next.1))
+pair_next (a ∷ []) [] xs next = ap (λ (g : List Pick). g ∷ []) (sym (merged_none (take a xs)))
+pair_next (a ∷ []) (b ∷ others) xs next = absurd (omega (arith, next.1))
+pair_next (a ∷ b ∷ []) others xs next = refl
+pair_next (a ∷ b ∷ c ∷ pair) others xs next = absurd (omega (arith, next.1))
+
+-- the counts of the pair and of what is left
+pair_sum : (pair others : List ℕ)
+    → NextPair pair others
+    → sum_of (pair ++ others) ≡ first_count pair + second_count pair + sum_of others
+pair_sum [] others next = absurd (omega (arith, next.0, next.1))
+pair_sum (a ∷ []) others next = omega arith
+pair_sum (a ∷ b ∷ []) others next = omega arith
+pair_sum (a ∷ b ∷ c ∷ pair) others next = absurd (omega (arith, next.1))
+
+module _ {before : List Segment} {counts : List ℕ} {after : List Segment} {later : List ℕ} {rest : List Segment} (pair others : List ℕ)
+    (now : Levelling before counts after later rest (pair ++ others)) where
   -- one more pair is merged
-  pub partly_more : (after : List ℕ) (middle high : ℕ)
-      → middle ≡ min (low + width) n
-      → high ≡ min (middle + width) n
-      → Joined from to after (get_or starts low 0) (get_or starts middle 0) (get_or starts high 0)
-      → Partly n starts width from after high
-  partly_more after middle high second third joined =
-      let g = at.pairs in
-      let first = at.reached ∙ edge_double n width g in
-      let mid : middle ≡ edge n width (suc (2 * g)) =
-      second ∙ ap (λ (m : ℕ). min (m + width) n) first ∙ edge_next n width (2 * g) in
-      let end : high ≡ edge n width (suc (suc (2 * g))) =
-      third ∙ ap (λ (m : ℕ). min (m + width) n) mid ∙ edge_next n width (suc (2 * g)) in
-      let last = end ∙ sym (edge_double_next n width g) in
-      let here : MergedAt n starts width from after g =
-      rw (← at.reached, ← last, ← first, ← mid, ← end) joined.segments in
+  pub levelling_more : (a b : ℕ) (first second next : List Segment)
+      → NextPair pair others
+      → a ≡ first_count pair
+      → b ≡ second_count pair
+      → first ≡ take a rest
+      → second ≡ take b (drop a rest)
+      → picks_of next ≡ picks_of after ++ merged (picks_of first) (picks_of second)
+      → length next ≡ length after + length first + length second
+      → Levelling before counts next (later ++ ((length first + length second) ∷ [])) (drop b (drop a rest)) others
+  levelling_more a b first second next some same_a same_b is_first is_second is_next long =
+      let n = length first + length second in
+      let both = merged (picks_of first) (picks_of second) in
+      let sum = pair_sum pair others some in
+      let fits : a + b + sum_of others ≡ length rest = omega (arith, sum, same_a, same_b, now.left_whole) in
+      let long_first : length first ≡ a = omega (arith, ap length is_first, length-take a rest, fits) in
+      let long_second : length second ≡ b =
+      omega (arith, ap length is_second, length-take b (drop a rest), length-drop a rest, fits) in
+      let long_rest : length (drop b (drop a rest)) ≡ length rest - a - b =
+      omega (arith, length-drop b (drop a rest), length-drop a rest) in
+      let merged_long : n ≡ length both =
+      omega (arith, ap length is_next, length-append (picks_of after) both, length-map next pick_of, length-map after pick_of, long) in
+      let whole : sum_of later ≡ length (picks_of after) = omega (arith, now.whole, length-map after pick_of) in
+      let after_first : picks_of first ≡ take (first_count pair) (picks_of rest) =
+      ap picks_of is_first ∙ sym (take-map pick_of a rest) ∙ ap (λ (k : ℕ). take k (picks_of rest)) same_a in
+      let dropped : picks_of (drop a rest) ≡ drop (first_count pair) (picks_of rest) =
+      sym (drop-map pick_of a rest) ∙ ap (λ (k : ℕ). drop k (picks_of rest)) same_a in
+      let after_second : picks_of second ≡ take (second_count pair) (drop (first_count pair) (picks_of rest)) =
+      ap picks_of is_second ∙ sym (take-map pick_of b (drop a rest)) ∙ ap₂ take same_b dropped in
+      let left_over : picks_of (drop b (drop a rest)) ≡ drop (second_count pair) (drop (first_count pair) (picks_of rest)) =
+      sym (drop-map pick_of b (drop a rest)) ∙ ap₂ drop same_b dropped in
       record {
-        long = joined.kept.long ∙ at.long;
-        pairs = suc g;
-        reached = last;
-        merges =
-            λ h before.
-            ⊎_elim
-            (λ e. subst (MergedAt n starts width from after) (sym e) here)
-            (λ lt. stays after (get_or starts middle 0) (get_or starts high 0) h joined lt)
-            (eq-or-lt_of_le (le_of_suc-le-suc before));
+        long = omega (arith, now.long, long, long_rest, long_first, long_second, fits);
+        left_whole = omega (arith, fits, long_rest);
+        many = omega (arith, length-append later (n ∷ []), length-append pair others, now.many, some.0, some.1);
+        whole = omega (arith, sum_append later (n ∷ []), now.whole, long);
+        groups =
+            ap (λ (gs : List (List Pick)). gs ++ paired (groups_of others (picks_of (drop b (drop a rest)))))
+            (rw is_next (groups_push later n (picks_of after) both whole merged_long))
+            ∙ append_snoc (groups_of later (picks_of after)) both (paired (groups_of others (picks_of (drop b (drop a rest)))))
+            ∙ ap (λ (gs : List (List Pick)). groups_of later (picks_of after) ++ gs)
+            (rw (after_first, after_second, left_over) (sym (pair_next pair others (picks_of rest) some)))
+            ∙ now.groups;
       }
 
-  -- all are merged
-  pub partly_all : n ≤ low → Levelled n starts width from to
-  unfolding merged
-  partly_all done =
-      record {
-        long = at.long;
-        merges =
-            λ g.
-            ⊎_elim
-            (λ past.
-            let far : n ≤ g * (2 * width) = omega (arith, at.reached, mul-le-mul_right (2 * width) past) in
-            let left = group_past n starts width from (2 * g) (omega (arith, far)) in
-            let right = group_past n starts width from (suc (2 * g)) (omega (arith, far)) in
-            group_past n starts (2 * width) to g far ∙ sym (ap₂ merged left right))
-            (λ before. at.merges g before)
-            (le_or_lt at.pairs g);
-      }
+-- nothing is left once all are merged
+nothing_left : (left : List ℕ) (xs : List Pick) (gs : List (List Pick))
+    → length left ≡ 0
+    → gs ++ paired (groups_of left xs) ≡ gs
+unfolding groups_of paired
+nothing_left [] xs gs done = append-nil gs
+nothing_left (n ∷ left) xs gs done = absurd (omega (arith, done))
 
--- groups in order, merged two by two, are groups of twice as many in order
-pub grouped_double : (n : ℕ) (curve : ℕ → Curve) (starts : List ℕ) (width : ℕ) (from to : List ℕ)
-    → Up curve
-    → Grouped n curve starts width from
-    → Levelled n starts width from to
-    → Grouped n curve starts (2 * width) to
-grouped_double n curve starts width from to up groups level g =
-    let first = 2 * g in
-    rw (level.merges g, edge_double n width g, edge_double_next n width g)
-    (order_joined
-    (edge n width first)
-    (edge n width (suc first))
-    (edge n width (suc (suc first)))
-    curve
-    (group_of n starts width from first)
-    (group_of n starts width from (suc first))
-    (edge_rises n width first (suc first) (omega arith))
-    (edge_rises n width (suc first) (suc (suc first)) (omega arith))
-    up
-    (groups first)
-    (groups (suc first)))
+-- nor any segment
+none_left : (left : List ℕ) → length left ≡ 0 → sum_of left ≡ 0
+none_left [] done = refl
+none_left (n ∷ left) done = absurd (omega (arith, done))
+
+-- all are merged
+pub levelling_all : {before : List Segment} {counts : List ℕ} {after : List Segment} {later : List ℕ} {rest : List Segment} (left : List ℕ)
+    → Levelling before counts after later rest left
+    → length left ≡ 0
+    → Levelled before counts after later
+levelling_all {later = later} {rest} left now done =
+    record {
+      long = omega (arith, now.long, now.left_whole, none_left left done);
+      whole = now.whole;
+      groups = sym (nothing_left left (picks_of rest) _ done) ∙ now.groups;
+    }

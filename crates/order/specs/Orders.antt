@@ -1,17 +1,21 @@
 -- From the segments of each interval to the order of all segments.
-use Rattle.std.specs.Prelude.{◌≡◌, refl, List, [], ◌∷◌, ℕ, suc, ◌*◌, ◌≤◌, ◌<◌, length, get_or}
-use Rattle.std.proofs.Common.{sym, ap, ◌∙◌, subst, subst₂, ⊎_elim, zero-le, le_refl, arith}
+use Rattle.std.specs.Prelude.{◌≡◌, refl, List, [], ◌∷◌, ℕ, zero, suc, ◌+◌, ◌*◌, ◌≤◌, ◌<◌, min, length, take}
+use Rattle.std.proofs.Common.{sym, ap, ◌∙◌, subst, ⊎_elim, zero-le, add-one, arith, take_all}
 use Rattle.std.proofs.Math.Path.{fun_ext}
+use Rattle.std.proofs.lemmas.List.{length-map}
 use Rattle.meaning.specs.Curve.{Corner, Curve, Rising, Climbing, Concave}
+use Rattle.meaning.specs.Plan.{sum_of}
+use Rattle.number_laws.specs.Lists.{list_from, list_length}
 use Rattle.number_laws.specs.Order.{le_or_lt, eq_or_ne}
 use Rattle.placement_laws.specs.Filling.{Pick, Picked, Next, Order, stepped_from, advance, advance_same, advance_other, picked_run}
-use Rattle.placement_laws.specs.OrderMerged.{none, within, within_inside, within_before, within_after, order_interval, picks_from}
-use Rattle.segments.specs.Packed.{between, Every}
-use Rattle.order.specs.Groups.{Orders}
-use Rattle.segments.specs.Stored.{Starts, SegmentsListed}
-use Rattle.order.specs.Groups.{edge, Levelled, Grouped}
-use Rattle.order.specs.Levels.{grouped_double}
-use Rattle.segments.specs.Places.{between_none}
+use Rattle.placement_laws.specs.OrderMerged.{Up, none, within, within_inside, within_after, order_interval, order_joined, merged, picks_from}
+use Rattle.units.specs.declared.corner.Block.{Block}
+use Rattle.segments.specs.Blocks.{curve_at, Curves}
+use Rattle.segments.specs.Listed.{groups_of, interval_picks, Listed}
+use Rattle.std.specs.List.{AllByRecursion}
+use Rattle.segments.specs.Picks.{pick_of, picks_of}
+use Rattle.segments.specs.declared.segment.Segment.{Segment}
+use Rattle.order.specs.Groups.{Orders, paired, Levelled}
 
 -- what holds of the first n curves, and of none, holds within them
 within_known : (P : Curve → Type 0) (n : ℕ) (curve : ℕ → Curve)
@@ -33,11 +37,6 @@ within_twice n curve =
     (λ past. within_after 0 n i (within 0 n curve) past ∙ sym (within_after 0 n i curve past))
     (λ inside. within_inside 0 n i (within 0 n curve) zero-le inside)
     (le_or_lt n i)
-
--- a group of no interval has no segment
-within_none : (m i : ℕ) (curve : ℕ → Curve) → within m m curve i ≡ none
-within_none m i curve =
-    ⊎_elim (λ past. within_after m m i curve past) (λ before. within_before m m i curve before) (le_or_lt m i)
 
 -- the curves that are left have rising rates, and no segment past the first n
 abbrev Left : ℕ → ℕ → Curve → Type 0
@@ -85,7 +84,7 @@ next_good n now s left next =
     )
 
 -- and so is every segment of an order
-order_good : (n : ℕ) (now : ℕ → Curve) (o : List Pick) → ((i : ℕ) → Left n i (now i)) → Order now o → Every (Good n) o
+order_good : (n : ℕ) (now : ℕ → Curve) (o : List Pick) → ((i : ℕ) → Left n i (now i)) → Order now o → AllByRecursion (Good n) o
 order_good n now [] left order = tt
 order_good n now (s ∷ o) left order = (
   next_good n now s left order.0,
@@ -93,7 +92,7 @@ order_good n now (s ∷ o) left order = (
 )
 
 -- what holds of every segment, said otherwise
-every_map : {P Q : Pick → Type 0} (o : List Pick) → ((s : Pick) → P s → Q s) → Every P o → Every Q o
+every_map : {P Q : Pick → Type 0} (o : List Pick) → ((s : Pick) → P s → Q s) → AllByRecursion P o → AllByRecursion Q o
 every_map [] turn all = tt
 every_map (s ∷ o) turn all = (turn s all.0, every_map o turn all.1)
 
@@ -101,7 +100,61 @@ every_map (s ∷ o) turn all = (turn s all.0, every_map o turn all.1)
 abbrev pub AllConcave : ℕ → (ℕ → Curve) → Type 0
 AllConcave n curve = (i : ℕ) → i < n → Concave (curve i)
 
-module _ (n : ℕ) (curve : ℕ → Curve) (sound : AllConcave n curve) (picks starts : List ℕ) where
+-- those of blocks are
+pub concave : (n : ℕ) (blocks : List Block) → Curves n blocks → AllConcave n (curve_at blocks)
+concave n blocks curves = λ i inside. (curves i inside).0
+
+-- groups of so many intervals each, from an interval on up to the n-th: each is the order of its intervals
+abbrev pub InOrder : (n width : ℕ) → (ℕ → Curve) → ℕ → List (List Pick) → Type 0
+InOrder n width curve low [] = n ≤ low
+InOrder n width curve low (g ∷ gs) = (low < n) × Order (within low (min (low + width) n) curve) g × InOrder n width curve (low + width) gs
+
+-- groups in order, merged two by two, are groups of twice as many in order
+paired_order : (n width low : ℕ) (curve : ℕ → Curve) (gs : List (List Pick))
+    → Up curve
+    → InOrder n width curve low gs
+    → InOrder n (2 * width) curve low (paired gs)
+unfolding paired
+paired_order n width low curve [] up order = order
+paired_order n width low curve (g ∷ []) up order =
+    let same : min (low + width) n ≡ min (low + 2 * width) n = omega (arith, order.2) in (
+      order.0,
+      subst (λ (high : ℕ). Order (within low high curve) g) same order.1,
+      omega (arith, order.2),
+    )
+paired_order n width low curve (g ∷ h ∷ gs) up order =
+    let next = order.2 in
+    let middle : min (low + width) n ≡ low + width = omega (arith, next.0) in
+    let twice : low + width + width ≡ low + 2 * width = omega arith in (
+      order.0,
+      subst (λ (high : ℕ). Order (within low (min high n) curve) (merged g h)) twice
+          (order_joined low (low + width) (min (low + width + width) n) curve g h (omega arith) (omega (arith, next.0)) up
+          (subst (λ (high : ℕ). Order (within low high curve) g) middle order.1)
+          next.1),
+      subst (λ (m : ℕ). InOrder n (2 * width) curve m (paired gs)) twice (paired_order n width (low + width + width) curve gs up next.2),
+    )
+
+-- merging adds no group
+paired_fewer : (gs : List (List Pick)) → length (paired gs) ≤ length gs
+unfolding paired
+paired_fewer [] = omega arith
+paired_fewer (g ∷ []) = omega arith
+paired_fewer (g ∷ h ∷ gs) = omega (arith, paired_fewer gs)
+
+-- and takes one away, where there are two
+fewer_of_two : (gs : List (List Pick)) → 1 < length gs → length (paired gs) < length gs
+unfolding paired
+fewer_of_two [] some = absurd (omega (arith, some))
+fewer_of_two (g ∷ []) some = absurd (omega (arith, some))
+fewer_of_two (g ∷ h ∷ gs) some = omega (arith, paired_fewer gs)
+
+-- as many groups as counts
+groups_length : (counts : List ℕ) (xs : List Pick) → length (groups_of counts xs) ≡ length counts
+unfolding groups_of
+groups_length [] xs = refl
+groups_length (n ∷ counts) xs = ap suc (groups_length counts _)
+
+module _ (n : ℕ) (curve : ℕ → Curve) (sound : AllConcave n curve) where
   -- the first n curves, and nothing of the others
   abbrev known : ℕ → Curve
   known = within 0 n curve
@@ -115,7 +168,7 @@ module _ (n : ℕ) (curve : ℕ → Curve) (sound : AllConcave n curve) (picks s
   known_left i = (known_up i, λ past. ap (λ (c : Curve). c.rest) (within_after 0 n i curve past))
 
   -- the segments of one interval are its order
-  order_one : (g : ℕ) → g < n → Order (within g (suc g) known) (picks_from g (curve g).first (curve g).rest)
+  order_one : (g : ℕ) → g < n → Order (within g (suc g) known) (interval_picks curve g)
   order_one g inside =
       let at = within_inside 0 n g curve zero-le inside in
       subst
@@ -128,99 +181,104 @@ module _ (n : ℕ) (curve : ℕ → Curve) (sound : AllConcave n curve) (picks s
       (subst (λ (c : Curve). Climbing c.first c.rest) (sym at) (sound g inside).climbing))
 
   -- each interval by itself is in order
-  grouped_one : SegmentsListed n curve picks starts → Grouped n known starts 1 picks
-  grouped_one listed g =
-      let Sorted : ℕ → ℕ → Type 0 =
-      λ a b. Order (within a b known) (between (get_or starts a 0) (get_or starts b 0) picks) in
-      ⊎_elim
-      (λ past.
-      let first : edge n 1 g ≡ n = omega (arith, past) in
-      let last : edge n 1 (suc g) ≡ n = omega (arith, past) in
-      subst₂ Sorted (sym first) (sym last)
-      (rw (between_none (get_or starts n 0) (get_or starts n 0) picks (le_refl (get_or starts n 0)))
-      (λ i. ap (λ (c : Curve). c.rest) (within_none n i known))))
-      (λ inside.
-      let first : edge n 1 g ≡ g = omega (arith, inside) in
-      let last : edge n 1 (suc g) ≡ suc g = omega (arith, inside) in
-      subst₂ Sorted (sym first) (sym last) (rw (listed.segments g inside) (order_one g inside)))
-      (le_or_lt n g)
+  each_order : (low m : ℕ) → low + m ≡ n → InOrder n 1 known low (list_from low m (interval_picks curve))
+  unfolding list_from
+  each_order low zero all = omega (arith, all)
+  each_order low (suc m) all =
+      let inside : low < n = omega (arith, all) in
+      let one : suc low ≡ min (low + 1) n = omega (arith, inside) in (
+        inside,
+        subst (λ (high : ℕ). Order (within low high known) (interval_picks curve low)) one (order_one low inside),
+        subst (λ (next : ℕ). InOrder n 1 known next (list_from (suc low) m (interval_picks curve))) (sym (add-one low))
+            (each_order (suc low) m (omega (arith, all))),
+      )
 
-  -- a group of all intervals is the order of all
-  grouped_all : (width : ℕ)
-      → n ≤ width
-      → Starts n starts
-      → Grouped n known starts width picks
-      → Orders n curve picks (get_or starts n 0)
-  grouped_all width wide places groups =
-      let last : edge n width 1 ≡ n = omega (arith, wide) in
-      let first : edge n width 0 ≡ 0 = omega arith in
-      let all : Order (within 0 n known) (between 0 (get_or starts n 0) picks) =
-      rw (first, last, places.first) at (groups 0) in
-      let order : Order known (between 0 (get_or starts n 0) picks) = rw (within_twice n curve) at all in
-      let good = order_good n known (between 0 (get_or starts n 0) picks) known_left order in
+  -- one group is all segments, in order
+  one_order : (width : ℕ) (counts : List ℕ) (xs : List Pick)
+      → length counts ≤ 1
+      → sum_of counts ≡ length xs
+      → InOrder n width known 0 (groups_of counts xs)
+      → Order known xs
+  unfolding groups_of
+  one_order width [] [] few whole order = λ i. ap (λ (c : Curve). c.rest) (within_after 0 n i curve (omega (arith, order)))
+  one_order width [] (x ∷ xs) few whole order = absurd (omega (arith, whole))
+  one_order width (c ∷ []) xs few whole order =
+      let last : min (0 + width) n ≡ n = omega (arith, order.2) in
+      let all : take c xs ≡ xs = take_all c xs (omega (arith, whole)) in
+      subst (λ (o : List Pick). Order known o) all
+      (rw (within_twice n curve) at (subst (λ (high : ℕ). Order (within 0 high known) (take c xs)) last order.1))
+  one_order width (c ∷ d ∷ counts) xs few whole order = absurd (omega (arith, few))
+
+-- where the sorting stands: the groups of so many intervals are in order
+pub record Sorting (n : ℕ) (curve : ℕ → Curve) (segments : List Segment) (counts : List ℕ) : Type 0 where
+  pub fits : length segments ≤ 512
+  pub many : length counts ≤ 64
+  pub whole : sum_of counts ≡ length segments
+  pub width : ℕ
+  pub groups : InOrder n width (within 0 n curve) 0 (groups_of counts (picks_of segments))
+
+-- each interval by itself is in order
+pub sorting_one : {n : ℕ} {curve : ℕ → Curve} {segments : List Segment} {counts : List ℕ}
+    → n ≤ 64
+    → AllConcave n curve
+    → Listed n curve segments counts
+    → Sorting n curve segments counts
+sorting_one {n} {curve} {segments} {counts} most sound listed =
+    record {
+      fits = listed.fits;
+      many =
+          omega (
+            arith,
+            most,
+            groups_length counts (picks_of segments),
+            ap length listed.groups,
+            list_length 0 n (interval_picks curve),
+          );
+      whole = listed.whole;
+      width = 1;
+      groups = rw listed.groups (each_order n curve sound 0 n (omega arith));
+    }
+
+module _ {n : ℕ} {curve : ℕ → Curve} {segments : List Segment} {counts : List ℕ} (sound : AllConcave n curve)
+    (now : Sorting n curve segments counts) where
+  -- a level leaves fewer groups
+  pub sorting_fewer : {after : List Segment} {later : List ℕ}
+      → 1 < length counts
+      → Levelled segments counts after later
+      → length later < length counts
+  sorting_fewer {after} {later} some level =
+      let fewer = fewer_of_two (groups_of counts (picks_of segments)) (omega (arith, some, groups_length counts (picks_of segments))) in
+      omega (
+        arith,
+        fewer,
+        groups_length counts (picks_of segments),
+        groups_length later (picks_of after),
+        ap length level.groups,
+      )
+
+  -- of twice as many intervals, and in order
+  pub sorting_more : {after : List Segment} {later : List ℕ}
+      → 1 < length counts
+      → Levelled segments counts after later
+      → Sorting n curve after later
+  sorting_more {after} {later} some level =
       record {
-        fits = places.fits;
+        fits = omega (arith, level.long, now.fits);
+        many = omega (arith, sorting_fewer some level, now.many);
+        whole = level.whole;
+        width = 2 * now.width;
+        groups = rw level.groups (paired_order n now.width 0 (within 0 n curve) _ (known_up n curve sound) now.groups);
+      }
+
+  -- one group is the order of all
+  pub sorting_all : length counts ≤ 1 → Orders n curve segments
+  sorting_all few =
+      let whole : sum_of counts ≡ length (picks_of segments) = omega (arith, now.whole, length-map segments pick_of) in
+      let order = one_order n curve sound now.width counts (picks_of segments) few whole now.groups in
+      let good = order_good n (within 0 n curve) (picks_of segments) (known_left n curve sound) order in
+      record {
+        fits = now.fits;
         order = order;
-        runs = every_map (between 0 (get_or starts n 0) picks) (λ s h. h.0) good;
-        inside = every_map (between 0 (get_or starts n 0) picks) (λ s h. h.1) good;
+        runs = every_map (picks_of segments) (λ s h. h.0) good;
+        inside = every_map (picks_of segments) (λ s h. h.1) good;
       }
-
--- where the sorting stands: whatever curves were listed at first, the groups of so many intervals are in order
-pub record Sorting (n : ℕ) (starts : List ℕ) (width : ℕ) (listed picks spare : List ℕ) : Type 0 where
-  pub long : length picks ≡ 512
-  pub spare_long : length spare ≡ 512
-  pub places : Starts n starts
-  pub some : 1 ≤ width
-  pub groups :
-      (curve : ℕ → Curve)
-      → AllConcave n curve
-      → SegmentsListed n curve listed starts
-      → Grouped n (within 0 n curve) starts width picks
-
-module _ {n : ℕ} {starts : List ℕ} where
-  -- each interval by itself is in order
-  pub sorting_one : {picks spare : List ℕ}
-      → length picks ≡ 512
-      → length spare ≡ 512
-      → Starts n starts
-      → Sorting n starts 1 picks picks spare
-  sorting_one {picks} long spare_long places =
-      record {
-        long = long;
-        spare_long = spare_long;
-        places = places;
-        some = le_refl 1;
-        groups = λ curve sound listed. grouped_one n curve sound picks starts listed;
-      }
-
-  module _ {width : ℕ} {listed picks spare : List ℕ} (now : Sorting n starts width listed picks spare) where
-    -- two levels give groups of four times as many
-    pub sorting_more : {middle after : List ℕ}
-        → Levelled n starts width picks middle
-        → Levelled n starts (2 * width) middle after
-        → Sorting n starts (4 * width) listed after middle
-    sorting_more {middle} {after} first second =
-        let four : 2 * (2 * width) ≡ 4 * width = omega arith in
-        record {
-          long = second.long;
-          spare_long = first.long;
-          places = now.places;
-          some = omega (arith, now.some);
-          groups =
-              λ curve sound given.
-              let up = known_up n curve sound picks starts in
-              let twice = grouped_double n (within 0 n curve) starts width picks middle up (now.groups curve sound given) first in
-              subst
-              (λ (w : ℕ). Grouped n (within 0 n curve) starts w after)
-              four
-              (grouped_double n (within 0 n curve) starts (2 * width) middle after up twice second);
-        }
-
-    -- one group is the order of all
-    pub sorting_all : {curve : ℕ → Curve}
-        → AllConcave n curve
-        → SegmentsListed n curve listed starts
-        → n ≤ width
-        → Orders n curve picks (get_or starts n 0)
-    sorting_all {curve} sound given wide =
-        grouped_all n curve sound picks starts width wide now.places (now.groups curve sound given)

@@ -1,106 +1,80 @@
 // The order of filling: the segments of all intervals by falling slope.
 #![tactic(auto)]
 
-ghost use Rattle.std.specs.Prelude.{◌≡◌, ◌+◌, ◌≤◌, ◌<◌, min, length};
-ghost use Rattle.placement_laws.specs.OrderMerged.{not_steeper};
+ghost use Rattle.std.specs.Prelude.{◌≡◌, ◌+◌, ◌≤◌, ◌++◌, length};
+ghost use Rattle.meaning.specs.Plan.{sum_of};
+ghost use Rattle.placement_laws.specs.OrderMerged.{merged, not_steeper};
 ghost use Rattle.segments.specs.Blocks.{curve_at, Curves};
-ghost use Rattle.segments.specs.Packed.{pick_of};
-ghost use Rattle.segments.specs.Stored.{Starts};
-ghost use Rattle.order.specs.Groups.{Orders, Chosen, Joined, Levelled};
+ghost use Rattle.segments.specs.Picks.{pick_of, picks_of};
+ghost use Rattle.order.specs.Groups.{Orders, Levelled};
 
-use segments::{crossed, list, rise_of, run_of};
+use segments::{Counts, Groups, Segment, Segments, crossed, list};
 use units::Block;
 
-// The segments of all intervals in the order of filling: the first count of the places.
-#[derive(Clone, Copy)]
-pub struct Ordered {
-    pub picks: [u64; 512],
-    pub count: usize,
-}
-
-// The lesser of two places.
-fn least(first: usize, second: usize) -> usize
-    ensures { result ≡ min first second }
-{
-    if first < second { first } else { second }
-}
-
 // Whether the slope of one segment is at least that of another.
-fn not_flatter(first: u64, second: u64) -> bool
+fn not_flatter(first: Segment, second: Segment) -> bool
     ensures { result ≡ not_steeper (pick_of first) (pick_of second) }
 {
-    crossed(rise_of(second), run_of(first)) <= crossed(rise_of(first), run_of(second))
+    crossed(second.rise, first.run) <= crossed(first.rise, second.run)
 }
 
-// Whether the next segment is the left group's: it has one left, and that of the right group is no steeper.
-fn left_next(picks: &[u64; 512], left: usize, middle: usize, right: usize, high: usize) -> bool
-    requires { (left ≤ middle) × (middle ≤ 512) × (right ≤ high) × (high ≤ 512) × (left + right < middle + high) }
-    ensures { Chosen picks.now left middle right high result }
+// Appends segments in their own order. (By a loop: the list's own `try_extend_from_slice` gives a Result, which would have to be dropped.)
+fn append(segments: &[Segment], to: &mut Segments)
+    requires { length to.old.items + length segments.now ≤ 512 }
+    ensures { to.new.items ≡ to.old.items ++ segments.now }
 {
-    if left == middle {
-        return false;
+    for segment in segments {
+        to.push(*segment);
     }
-    if right == high {
-        return true;
-    }
-    not_flatter(picks[left], picks[right])
 }
 
-// Two neighbouring groups merged: the steeper segment first, and of equal ones that of the left group.
-fn merge(from: &[u64; 512], to: &mut [u64; 512], low: usize, middle: usize, high: usize)
-    requires { (low ≤ middle) × (middle ≤ high) × (high ≤ 512) × (length to.old ≡ 512) }
-    ensures { Joined from.now to.old to.new low middle high }
+// Appends two groups merged: the steeper segment first, and of equal ones that of the left group.
+fn merge(mut left: &[Segment], mut right: &[Segment], to: &mut Segments)
+    requires { length to.old.items + length left.now + length right.now ≤ 512 }
+    ensures segments { picks_of to.new.items ≡ picks_of to.old.items ++ merged (picks_of left.now) (picks_of right.now) }
+    ensures long { length to.new.items ≡ length to.old.items + length left.now + length right.now }
 {
-    let mut left = low;
-    let mut right = middle;
-    let mut at = low;
-    while at < high {
-        if left_next(from, left, middle, right, high) {
-            to[at] = from[left];
-            left += 1;
+    while let ([first, left_others @ ..], [second, right_others @ ..]) = (left, right) {
+        if not_flatter(*first, *second) {
+            to.push(*first);
+            left = left_others;
         } else {
-            to[at] = from[right];
-            right += 1;
+            to.push(*second);
+            right = right_others;
         }
-        at += 1;
     }
+    append(left, to);
+    append(right, to);
 }
 
-// Each two neighbouring groups of so many intervals merged into one.
-fn level(
-    from: &[u64; 512],
-    to: &mut [u64; 512],
-    starts: &[usize; 65],
-    intervals: usize,
-    width: usize,
-)
-    requires { (intervals ≤ 64) × (1 ≤ width) × (width ≤ 128) × (length to.old ≡ 512) × Starts intervals starts.now }
-    ensures { Levelled intervals starts.now width from.now to.new }
+// Each two neighbouring groups merged into one; an odd one at the end stays as it is.
+fn level(groups: &Groups) -> Groups
+    requires { (length groups.now.segments.items ≤ 512) × (length groups.now.counts.items ≤ 64) × (sum_of groups.now.counts.items ≡ length groups.now.segments.items) }
+    ensures { Levelled groups.now.segments.items groups.now.counts.items result.segments.items result.counts.items }
 {
-    let mut low = 0;
-    while low < intervals {
-        let middle = least(low + width, intervals);
-        let high = least(middle + width, intervals);
-        merge(from, to, starts[low], starts[middle], starts[high]);
-        low = high;
+    let mut segments = Segments::new();
+    let mut counts = Counts::new();
+    let mut rest = groups.segments.as_slice();
+    for pair in groups.counts.chunks(2) {
+        let (left, others) = rest.split_at(pair[0]);
+        let (right, others) = others.split_at(pair.get(1).copied().unwrap_or(0));
+        merge(left, right, &mut segments);
+        counts.push(left.len() + right.len());
+        rest = others;
     }
+    Groups { segments, counts }
 }
 
 // The order of all segments: by falling slope, ties to the lower interval.
-pub fn order(blocks: [Block; 64], intervals: usize) -> Ordered
-    requires { (intervals ≤ 64) × Curves intervals blocks }
-    ensures { Orders intervals (curve_at blocks) result.picks result.count }
+pub fn order(blocks: &[Block]) -> Segments
+    requires { (length blocks.now ≤ 64) × Curves (length blocks.now) blocks.now }
+    ensures { Orders (length blocks.now) (curve_at blocks.now) result.items }
 {
-    let mut picks = [0u64; 512];
-    let mut spare = [0u64; 512];
-    let mut starts = [0usize; 65];
-    list(blocks, intervals, &mut picks, &mut starts);
-    let mut width = 1;
-    while width < intervals {
-        level(&picks, &mut spare, &starts, intervals, width);
-        level(&spare, &mut picks, &starts, intervals, 2 * width);
-        width = 4 * width;
+    // Merging stays: the library's sorts do not know that each group is in order already; they want an order of all segments, which slopes
+    // are not where a run is 0, and the stable one wants a heap.
+    let mut groups = list(blocks);
+    while groups.counts.len() > 1 {
+        groups = level(&groups);
     }
-    let count = starts[intervals];
-    Ordered { picks, count }
+    groups.segments
 }

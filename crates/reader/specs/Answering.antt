@@ -1,35 +1,16 @@
 -- What the reader's findings and stores make of its promise.
-use Rattle.std.specs.Prelude.{◌≡◌, refl, Bool, true, false, ◌&&◌, List, ℕ, ◌*◌, ◌≤◌, length, leb}
+use Rattle.std.specs.Prelude.{◌≡◌, refl, Ok, true, false, ◌&&◌, List, ℕ, ◌*◌, ◌≤◌, length, leb}
 use Rattle.std.proofs.Common.{◌∙◌, leb-true}
 use Rattle.std.proofs.lemmas.List.Edits.{sets}
-use Rattle.meaning.specs.PlanFile.{Reading, two_at, read_file}
+use Rattle.meaning.specs.PlanFile.{two_at}
 use Rattle.meaning.specs.Promises.{Places, written, fits, no_file_figures, file_figures, ReadPromise}
 use Rattle.plan_laws.specs.RefusalOrder.{and_first, and_second}
 use Rattle.file_laws.specs.Masks.{length_tabulate}
 use Rattle.record.specs.Stores.{sets_front}
-use Rattle.record.specs.Given.{workloads_of}
+use Rattle.record.specs.Given.{workloads_with}
 use Rattle.reader.specs.declared.Contents.{Contents}
-use Rattle.reader.specs.declared.ReadAnswer.{ReadAnswer}
 use Rattle.reader.specs.Reading.{read_figures, plan_to, workloads_to, intervals_end, file_with, Found, places_fit, Filled}
 use Rattle.reader.specs.Filling.{budgets_count}
-
--- a refused file leaves the places as they are
-pub refused_promise : (s : List ℕ) (places : Places) (n at : ℕ)
-    → read_file s ≡ Reading.refused n at
-    → ReadPromise s places (no_file_figures n at) places
-refused_promise s places n at e = rw e (refl, refl)
-
--- a file's intervals, budgets and workloads fit six places
-abbrev pub room_in : Contents → Places → Bool
-room_in c places =
-    places_fit
-    c
-    (length places.lengths)
-    (length places.budgets)
-    (length places.analysed)
-    (length places.computing)
-    (length places.requests)
-    (length places.horizons)
 
 -- these counts of intervals, budgets and workloads are within six places
 pub record Room (c : Contents) (places : Places) : Type 0 where
@@ -41,7 +22,7 @@ pub record Room (c : Contents) (places : Places) : Type 0 where
   pub horizons : c.workloads ≤ length places.horizons
 
 -- what it says that there is room
-pub has_room : (c : Contents) (places : Places) → room_in c places ≡ true → Room c places
+pub has_room : (c : Contents) (places : Places) → places_fit c places ≡ true → Room c places
 has_room c places e =
     let w = c.workloads in
     let one = leb c.intervals (length places.lengths) in
@@ -73,16 +54,16 @@ stored old xs count room e = e ∙ sets_front old xs (rw count room)
 
 module _ (s : List ℕ) (places : Places) (c : Contents) (found : Found s c) where
   -- there is room for a file just where its counts fit
-  fits_counts : fits (file_with s c.workloads) places ≡ room_in c places
+  fits_counts : fits (file_with s c.workloads) places ≡ places_fit c places
   fits_counts =
       simp (length_tabulate, budgets_count s (two_at s 8), ← found.headed.values.cores, ← found.headed.intervals)
 
   -- a sound file without room leaves the places as they are
-  pub no_room_promise : room_in c places ≡ false → ReadPromise s places (no_file_figures 11 0) places
+  pub no_room_promise : places_fit c places ≡ false → ReadPromise s places (no_file_figures 11 0) places
   no_room_promise e = rw (found.reading, fits_counts ∙ e) (refl, refl)
 
   -- the figures of a sound file are the answer's
-  figures : read_figures (ReadAnswer.Sound c) ≡ file_figures (file_with s c.workloads)
+  figures : read_figures (Ok c) ≡ file_figures (file_with s c.workloads)
   figures =
       simp (
         length_tabulate,
@@ -94,16 +75,16 @@ module _ (s : List ℕ) (places : Places) (c : Contents) (found : Found s c) whe
 
   -- a sound file with room is stored from the front of each place
   pub sound_promise : (after : Places)
-      → room_in c places ≡ true
+      → places_fit c places ≡ true
       → after.lengths ≡ sets places.lengths 0 (plan_to s c.intervals).lengths
       → after.budgets ≡ sets places.budgets 0 (plan_to s c.intervals).budgets
       → Filled
       s
       (intervals_end s)
       c.workloads
-      (workloads_of places.analysed places.computing places.requests places.horizons)
-      (workloads_of after.analysed after.computing after.requests after.horizons)
-      → ReadPromise s places (read_figures (ReadAnswer.Sound c)) after
+      (workloads_with places.analysed places.computing places.requests places.horizons)
+      (workloads_with after.analysed after.computing after.requests after.horizons)
+      → ReadPromise s places (read_figures (Ok c)) after
   sound_promise after e lengths budgets filled =
       let room = has_room c places e in
       let n = two_at s 8 in

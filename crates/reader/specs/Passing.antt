@@ -1,5 +1,5 @@
 -- Where the reader stands after some records, and what one record more makes of it.
-use Rattle.std.specs.Prelude.{◌≡◌, refl, List, ℕ, suc, ◌+◌, ◌-◌, ◌*◌, ◌≤◌, ◌<◌, eqb}
+use Rattle.std.specs.Prelude.{◌≡◌, refl, Result, List, ℕ, suc, ◌+◌, ◌-◌, ◌*◌, ◌≤◌, ◌<◌, eqb}
 use Rattle.std.proofs.Common.{sym, ap, ◌∙◌, ⊎_elim, eq-or-lt_of_le, add-one, arith, ne_eqb}
 use Rattle.std.proofs.Math.Nat.{sub-zero}
 use Rattle.std.proofs.Math.ListN.{length}
@@ -10,10 +10,13 @@ use Rattle.meaning.specs.PlanFile.{Reading, byte_at, two_at, four_at, tabulate, 
 use Rattle.file_laws.specs.Masks.{tabulate_more, sum_tabulate_more}
 use Rattle.file_laws.specs.SoundRecords.{sound_head, sound_interval_record, sound_workload_record}
 use Rattle.file_laws.specs.ReadingSteps.{head_passed, interval_passed, interval_refused, workload_passed, workload_refused, workloads_ended}
-use Rattle.units.specs.Refusals.{some_number}
-use Rattle.units.specs.Refusals.{number_of}
+use Rattle.units.specs.Refusals.{some_number, number_of}
 use Rattle.units.specs.declared.Head.{Head}
+use Rattle.units.specs.declared.Periods.{Periods}
 use Rattle.units.specs.declared.Refusal.{Refusal}
+use Rattle.judge.specs.Judged.{Judged}
+use Rattle.record.specs.Values.{HeadRead}
+use Rattle.record.specs.Faults.{IntervalRecordJudged}
 use Rattle.reader.specs.Reading.{record_at, intervals_end, budgets_to, plan_to, workloads_to, file_with, AllListed, HeadSound, IntervalsRead, Found}
 
 -- one interval more of a plan
@@ -53,6 +56,16 @@ read_none {s} headed =
       listed = below_none _;
       reading = rw (sub-zero, headed.intervals) (head_passed s headed.fault);
     }
+
+-- what an interval record is judged there is what it is refused for after the plan that was read
+pub judged_there : {s : List ℕ} {head : Head} {n at periods i : ℕ}
+    → HeadRead s head
+    → ReadTo s n at periods i
+    → (r : Result Periods Refusal)
+    → IntervalRecordJudged s at head periods r
+    → Judged (interval_fault s at (plan_to s i)) (periods + two_at s (at + 6)) r
+judged_there {s} {head} {n} {at} {periods} {i} read here r judged =
+    judged (plan_to s i) (sym read.cores) (sym read.per_period) (sym here.total)
 
 module _ {s : List ℕ} {n at periods i : ℕ} (here : ReadTo s n at periods i) (more : i < n) where
   left : n - i ≡ suc (n - (i + 1))

@@ -1,5 +1,5 @@
 -- What the reader has found after some records, and what its answers say in the paper's numbers.
-use Rattle.std.specs.Prelude.{◌≡◌, Bool, false, ◌&&◌, List, [], ◌++◌, ℕ, zero, suc, ◌+◌, ◌*◌, ◌≤◌, ◌<◌, length, leb}
+use Rattle.std.specs.Prelude.{◌≡◌, Result, Ok, Err, Bool, false, ◌&&◌, List, [], ◌++◌, ℕ, zero, suc, ◌+◌, ◌*◌, ◌≤◌, ◌<◌, length, leb}
 use Rattle.std.proofs.lemmas.List.Edits.{sets}
 use Rattle.meaning.specs.Plan.{Plan, most_workloads}
 use Rattle.meaning.specs.PlanFile.{Reading, PlanFile, Workloads, byte_at, two_at, four_at, row_at, tabulate, head_fault, read_file, read_workloads}
@@ -8,11 +8,12 @@ use Rattle.units.specs.Refusals.{number_of}
 use Rattle.units.specs.declared.Head.{Head}
 use Rattle.record.specs.Values.{HeadRead, ListedWithin}
 use Rattle.reader.specs.declared.Contents.{Contents}
-use Rattle.reader.specs.declared.ReadAnswer.{ReadAnswer}
+use Rattle.reader.specs.declared.FileRefusal.{FileRefusal}
+use Rattle.reader.specs.declared.Places as declared
 
 -- the paper's number and values of each case
-abbrev pub read_figures : ReadAnswer → ReadFigures
-read_figures (ReadAnswer.Sound c) =
+abbrev pub read_figures : Result Contents FileRefusal → ReadFigures
+read_figures (Ok c) =
     record {
       refused = 0;
       offset = 0;
@@ -22,7 +23,7 @@ read_figures (ReadAnswer.Sound c) =
       intervals = c.intervals;
       workloads = c.workloads;
     }
-read_figures (ReadAnswer.Refused f at) = no_file_figures (number_of f) at
+read_figures (Err e) = no_file_figures (number_of e.refusal) e.offset
 
 -- the six places lent to the reader
 abbrev pub places_of : List ℕ → List ℕ → List ℕ → List ℕ → List ℕ → List ℕ → Places
@@ -35,6 +36,12 @@ places_of lengths budgets analysed computing requests horizons =
       requests = requests;
       horizons = horizons;
     }
+
+-- the six places that a value of them gives
+abbrev pub places_in : declared.Places → Places
+places_in p =
+    let w = p.workloads in
+    places_of p.lengths.now p.budgets.now w.analysed.now w.computing.now w.requests.now w.horizons.now
 
 -- the offset of the i-th interval record, i from 0
 unfoldable pub record_at : List ℕ → ℕ → ℕ
@@ -103,19 +110,19 @@ pub record Found (s : List ℕ) (c : Contents) : Type 0 where
   pub reading : read_file s ≡ Reading.sound (file_with s c.workloads)
 
 -- a file is found sound, or is refused
-abbrev pub FileJudged : List ℕ → ReadAnswer → Type 0
-FileJudged s (ReadAnswer.Sound c) = Found s c
-FileJudged s (ReadAnswer.Refused f at) = read_file s ≡ Reading.refused (number_of f) at
+abbrev pub FileJudged : List ℕ → Result Contents FileRefusal → Type 0
+FileJudged s (Ok c) = Found s c
+FileJudged s (Err e) = read_file s ≡ Reading.refused (number_of e.refusal) e.offset
 
--- a file's intervals, budgets and workloads fit places of these lengths
-abbrev pub places_fit : Contents → ℕ → ℕ → ℕ → ℕ → ℕ → ℕ → Bool
-places_fit c lengths budgets analysed computing requests horizons =
-    leb c.intervals lengths
-    && leb (c.intervals * c.head.cores) budgets
-    && leb c.workloads analysed
-    && leb c.workloads computing
-    && leb c.workloads requests
-    && leb c.workloads horizons
+-- a file's intervals, budgets and workloads fit six places
+abbrev pub places_fit : Contents → Places → Bool
+places_fit c places =
+    leb c.intervals (length places.lengths)
+    && leb (c.intervals * c.head.cores) (length places.budgets)
+    && leb c.workloads (length places.analysed)
+    && leb c.workloads (length places.computing)
+    && leb c.workloads (length places.requests)
+    && leb c.workloads (length places.horizons)
 
 -- four places after the first n workloads from an offset on were stored from the front of each
 pub record Filled (s : List ℕ) (start n : ℕ) (old new : Workloads) : Type 0 where

@@ -3,59 +3,44 @@ ghost use Rattle.std.specs.Prelude.{◌≡◌, ◌+◌, ◌*◌, ◌≤◌, leng
 ghost use Rattle.std.proofs.lemmas.List.Edits.{sets};
 ghost use Rattle.meaning.specs.Plan.{most_cores, most_intervals};
 ghost use Rattle.meaning.specs.PlanFile.{byte_at, row_at};
-ghost use Rattle.record.specs.Values.{ListedWithin};
-ghost use Rattle.record.specs.Given.{workloads_of};
-ghost use Rattle.reader.specs.Reading.{AllListed, record_at, plan_to, places_fit, Filled};
+ghost use Rattle.record.specs.Given.{workloads_with};
+ghost use Rattle.reader.specs.Reading.{AllListed, record_at, plan_to, places_of, places_fit, Filled};
 
 use crate::Contents;
-use record::Kind;
-use record::values::{behind, budget_at, periods_at, workload_at};
+use record::{IntervalRecord, Kind, Record};
 
-// The intervals, budgets and workloads of a file fit places of these lengths.
+// The intervals, budgets and workloads of a file fit these places. (Tried as one `Places`: made of places that are lent to be written, it
+// stands at an intersection of lifetimes, for which no proof is generated.)
 pub fn fits(
     found: Contents,
-    lengths: usize,
-    budgets: usize,
-    analysed: usize,
-    computing: usize,
-    requests: usize,
-    horizons: usize,
+    lengths: &[u16],
+    budgets: &[u16],
+    analysed: &[u8],
+    computing: &[u32],
+    requests: &[u32],
+    horizons: &[u16],
 ) -> bool
     requires { (found.intervals ≤ most_intervals) × (found.head.cores ≤ most_cores) }
-    ensures { result ≡ places_fit found lengths budgets analysed computing requests horizons }
+    ensures { result
+        ≡ places_fit
+        found
+        (places_of lengths.now budgets.now analysed.now computing.now requests.now horizons.now) }
 {
-    let intervals = found.intervals;
-    let workloads = found.workloads;
-    let numbers = intervals * found.head.cores as usize;
-    if lengths < intervals {
-        return false;
-    }
-    if budgets < numbers {
-        return false;
-    }
-    if analysed < workloads {
-        return false;
-    }
-    if computing < workloads {
-        return false;
-    }
-    if requests < workloads {
-        return false;
-    }
-    workloads <= horizons
+    found.intervals <= lengths.len()
+        && found.intervals * usize::from(found.head.cores) <= budgets.len()
+        && found.workloads <= analysed.len()
+        && found.workloads <= computing.len()
+        && found.workloads <= requests.len()
+        && found.workloads <= horizons.len()
 }
 
-// The budgets of the interval record at an offset, filled in from a start on.
-fn fill_budgets(file: &[u8], at: usize, cores: u8, budgets: &mut [u16], start: usize)
-    requires cores_le_most_cores { cores ≤ most_cores }
-    requires listed_within { ListedWithin file.now at }
-    requires cores_in_bounds { start + cores ≤ length budgets.old }
-    ensures { budgets.new ≡ sets budgets.old start (row_at cores file.now at) }
+// The budgets of an interval record, filled into a row of one for each core.
+fn fill_budgets(interval: IntervalRecord, row: &mut [u16])
+    requires { length row.old ≤ most_cores }
+    ensures { row.new ≡ row_at (length row.old) interval.entry.record.file.now interval.entry.record.at }
 {
-    let mut core: u8 = 0;
-    while core < cores {
-        budgets[start + core as usize] = budget_at(file, at, core);
-        core += 1;
+    for (core, budget) in row.iter_mut().enumerate() {
+        *budget = interval.budget(core as u8);
     }
 }
 
@@ -74,14 +59,15 @@ pub fn fill_intervals(
     ensures lengths_after { lengths.new ≡ sets lengths.old 0 (plan_to file.now count).lengths }
     ensures budgets_after { budgets.new ≡ sets budgets.old 0 (plan_to file.now count).budgets }
 {
-    let m = cores as usize;
+    let cores = usize::from(cores);
     let mut at = Kind::HEAD_BYTES;
-    let mut i = 0;
-    while i < count {
-        lengths[i] = periods_at(file, at).0;
-        fill_budgets(file, at, cores, budgets, i * m);
-        at = behind(file, at);
-        i += 1;
+    for i in 0..count {
+        let start = i * cores;
+        let record = Record { file, at };
+        lengths[i] = record.periods().0;
+        let interval = IntervalRecord { record };
+        fill_budgets(interval, &mut budgets[start..start + cores]);
+        at = record.behind();
     }
     at
 }
@@ -105,18 +91,15 @@ pub fn fill_workloads(
         file.now
         start
         count
-        (workloads_of analysed.old computing.old requests.old horizons.old)
-        (workloads_of analysed.new computing.new requests.new horizons.new) }
+        (workloads_with analysed.old computing.old requests.old horizons.old)
+        (workloads_with analysed.new computing.new requests.new horizons.new) }
 {
-    let mut at = start;
-    let mut i = 0;
-    while i < count {
-        let workload = workload_at(file, at);
+    for i in 0..count {
+        let at = start + Kind::WORKLOAD_BYTES * i;
+        let workload = Record { file, at }.workload();
         analysed[i] = workload.core;
         computing[i] = workload.computing.0;
         requests[i] = workload.requests.0;
         horizons[i] = workload.horizon.0;
-        at += Kind::WORKLOAD_BYTES;
-        i += 1;
     }
 }

@@ -6,7 +6,7 @@ ghost use Rattle.reader.specs.Reading.{read_figures, places_of};
 
 use filling::{fill_intervals, fill_workloads, fits};
 use passing::contents;
-use units::{Head, Refusal};
+use units::{Head, Refusal, Workloads};
 
 mod filling; // filling.rt: the values of a judged file filled into lent places
 mod passing; // passing.rt: a whole file judged with no store
@@ -19,17 +19,26 @@ pub struct Contents {
     pub workloads: usize,
 }
 
-// The answer to "read a plan file": what it holds, or a refusal with the offset of the record at fault.
+// What a file is refused for, with the offset of the record at fault.
+#[derive(Clone, Copy, Debug, PartialEq, Eq)]
+pub struct FileRefusal {
+    pub refusal: Refusal,
+    pub offset: usize,
+}
+
+// The six places of a file that was read, as they are lent for a call: the periods of each interval, the budgets, and the workloads.
 #[derive(Clone, Copy)]
-pub enum ReadAnswer {
-    Sound(Contents),
-    Refused(Refusal, usize),
+pub struct Places<'a> {
+    pub lengths: &'a [u16],
+    pub budgets: &'a [u16],
+    pub workloads: Workloads<'a>,
 }
 
 // Reads a plan file. The file and the six places are lent for the call alone. Written from the front of the places, and what lies behind
 // is kept, are the periods of each interval; the budgets, interval by interval, core 1 first; and of each workload the core, counted from
 // 1, its computing, its requests and its horizon. How many numbers they are is in the answer. On a refusal no place is written; 11, with
-// offset 0, is a place that is too short.
+// offset 0, is a place that is too short. The places are six parameters, since each list of a struct that is lent to be written would need
+// a clause of its own on its name as a loan.
 pub fn read(
     file: &[u8],
     lengths: &mut [u16],
@@ -38,7 +47,7 @@ pub fn read(
     computing: &mut [u32],
     requests: &mut [u32],
     horizons: &mut [u16],
-) -> ReadAnswer
+) -> Result<Contents, FileRefusal>
     ensures { ReadPromise
         file.now
         (places_of
@@ -57,24 +66,24 @@ pub fn read(
         requests.new
         horizons.new) }
 {
-    let answer = contents(file);
-    let ReadAnswer::Sound(found) = answer else {
-        return answer;
-    };
-    if fits(
-        found,
-        lengths.len(),
-        budgets.len(),
-        analysed.len(),
-        computing.len(),
-        requests.len(),
-        horizons.len(),
+    let found = contents(file)?;
+    if !fits(
+        found, lengths, budgets, analysed, computing, requests, horizons,
     ) {
-        let start = fill_intervals(file, found.head.cores, found.intervals, lengths, budgets);
-        let count = found.workloads;
-        fill_workloads(file, start, count, analysed, computing, requests, horizons);
-        answer
-    } else {
-        ReadAnswer::Refused(Refusal::NoRoom, 0)
+        return Err(FileRefusal {
+            refusal: Refusal::NoRoom,
+            offset: 0,
+        });
     }
+    let start = fill_intervals(file, found.head.cores, found.intervals, lengths, budgets);
+    fill_workloads(
+        file,
+        start,
+        found.workloads,
+        analysed,
+        computing,
+        requests,
+        horizons,
+    );
+    Ok(found)
 }

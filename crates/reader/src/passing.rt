@@ -1,60 +1,68 @@
 // A whole file judged with no store, record by record.
+ghost use Rattle.std.specs.Prelude.{◌≡◌, MatchResult};
 ghost use Rattle.reader.specs.Reading.{HeadSound, IntervalsRead, FileJudged};
 
-use crate::{Contents, ReadAnswer};
-use judge::Judgement;
-use record::Kind;
-use record::faults::{head_fault, interval_fault, workload_fault};
-use record::values::{behind, head_at, intervals_at};
-use units::{Head, Periods, Workload};
+use crate::{Contents, FileRefusal};
+use record::faults::head_fault;
+use record::values::{head_at, intervals_at};
+use record::{Kind, Record};
+use units::{Head, Periods, Refusal, Workload};
 
-// The workloads from a start on, behind a head and so many intervals: what the file holds.
-fn pass_workloads(file: &[u8], head: Head, intervals: usize, start: usize) -> ReadAnswer
+// What the record at an offset was judged, with the offset where it is refused.
+fn at_offset<T>(judged: Result<T, Refusal>, offset: usize) -> Result<T, FileRefusal>
+    ensures { MatchResult result
+        (λ x. judged ≡ Ok x)
+        (λ e. (judged ≡ Err e.refusal) × (e.offset ≡ offset)) }
+{
+    judged.map_err(|refusal| FileRefusal { refusal, offset })
+}
+
+// The workloads from a start on, behind a head and so many intervals: what the file holds. The loop is a `while`, since the end of the file
+// ends it, and each record says where the next begins.
+fn pass_workloads(
+    file: &[u8],
+    head: Head,
+    intervals: usize,
+    start: usize,
+) -> Result<Contents, FileRefusal>
     requires { IntervalsRead file.now head intervals start }
     ensures { FileJudged file.now result }
 {
     let mut at = start;
     let mut count: u16 = 0;
+    // No loop over a count: the file's end ends it, and each record says where the next begins.
     while at < file.len() {
-        if let Judgement::Refused(refusal) = workload_fault(file, at, count == Workload::MOST) {
-            return ReadAnswer::Refused(refusal, at);
-        }
-        at = behind(file, at);
+        let record = Record { file, at };
+        at_offset(record.workload_fault(count == Workload::MOST), at)?;
+        at = record.behind();
         count += 1;
     }
-    let workloads = count as usize;
-    ReadAnswer::Sound(Contents {
+    Ok(Contents {
         head,
         intervals,
-        workloads,
+        workloads: usize::from(count),
     })
 }
 
 // The intervals behind a head, and then the workloads: what the file holds.
-fn pass_intervals(file: &[u8], head: Head, intervals: usize) -> ReadAnswer
+fn pass_intervals(file: &[u8], head: Head, intervals: usize) -> Result<Contents, FileRefusal>
     requires { HeadSound file.now head intervals }
     ensures { FileJudged file.now result }
 {
     let mut at = Kind::HEAD_BYTES;
     let mut passed = Periods(0);
-    let mut i = 0;
-    while i < intervals {
-        match interval_fault(file, at, head, passed) {
-            Judgement::Sound(total) => passed = total,
-            Judgement::Refused(refusal) => return ReadAnswer::Refused(refusal, at),
-        }
-        at = behind(file, at);
-        i += 1;
+    for _i in 0..intervals {
+        let record = Record { file, at };
+        passed = at_offset(record.interval_fault(head, passed), at)?;
+        at = record.behind();
     }
     pass_workloads(file, head, intervals, at)
 }
 
 // What a file holds, judged whole.
-pub fn contents(file: &[u8]) -> ReadAnswer
+pub fn contents(file: &[u8]) -> Result<Contents, FileRefusal>
     ensures { FileJudged file.now result }
 {
-    if let Judgement::Refused(refusal) = head_fault(file) {
-        return ReadAnswer::Refused(refusal, 0);
-    }
+    at_offset(head_fault(file), 0)?;
     pass_intervals(file, head_at(file), intervals_at(file))
 }

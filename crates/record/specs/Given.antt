@@ -1,18 +1,19 @@
 -- What lists of workload values, and a plan with them, are in the definitions' words.
 use Rattle.std.specs.Prelude.{List, ℕ}
-use Rattle.meaning.specs.PlanFile.{PlanFile, Workloads}
+use Rattle.meaning.specs.PlanFile as meant
 use Rattle.units.specs.Given.{plan_of}
-use Rattle.units.specs.declared.Head.{Head}
+use Rattle.units.specs.declared.Plan.{Plan}
+use Rattle.units.specs.declared.Workloads.{Workloads}
 
 -- workloads as four lists
-abbrev pub workloads_of : List ℕ → List ℕ → List ℕ → List ℕ → Workloads
-workloads_of analysed computing requests horizons =
+abbrev pub workloads_with : List ℕ → List ℕ → List ℕ → List ℕ → meant.Workloads
+workloads_with analysed computing requests horizons =
     record { analysed = analysed; computing = computing; requests = requests; horizons = horizons }
 
--- the plan of a head, lengths and budgets, with its workloads
-abbrev pub file_given : Head → List ℕ → List ℕ → List ℕ → List ℕ → List ℕ → List ℕ → PlanFile
-file_given head lengths budgets analysed computing requests horizons =
-    record {
-      plan = plan_of head lengths budgets;
-      workloads = workloads_of analysed computing requests horizons;
-    }
+-- the workloads that a value of four lists gives
+abbrev pub workloads_of : Workloads → meant.Workloads
+workloads_of w = workloads_with w.analysed.now w.computing.now w.requests.now w.horizons.now
+
+-- the plan that a plan's value gives, with its workloads
+abbrev pub file_given : Plan → Workloads → meant.PlanFile
+file_given p w = record { plan = plan_of p; workloads = workloads_of w }

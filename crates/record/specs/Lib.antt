@@ -1,3 +1,4 @@
+pub mod Kinds
 pub mod Values
 pub mod Faults
 pub mod Stores

@@ -1,44 +1,68 @@
 // One record of a plan file: its kind, the numbers in it, its values, and what it is refused for.
 #![tactic(auto)]
 
+ghost use Rattle.std.specs.Prelude.{◌≡◌};
+ghost use Rattle.record.specs.Kinds.{number_in_file, least_of, most_of};
+
+use units::Head;
+
 pub mod bytes; // bytes.rt: numbers of several bytes
 pub mod faults; // faults.rt: what a record is refused for
 pub mod lists; // lists.rt: lists of workload values
+mod record; // record.rt: a record as the place where it stands
 pub mod values; // values.rt: what stands in a record
 
-// A kind of record: its number, and the least and the most bytes of its body, an even number of them.
-#[derive(Clone, Copy)]
-pub struct Kind {
-    pub number: u16,
-    pub least: u16,
-    pub most: u16,
+pub use record::{IntervalRecord, Record};
+
+// A kind of record, with its number in the file: the head of a plan, an interval with up to eight listed budgets, a workload.
+#[derive(Clone, Copy, Debug, PartialEq, Eq)]
+pub enum Kind {
+    Head = 1,
+    Interval = 2,
+    Workload = 3,
 }
 
 impl Kind {
-    // The head of a plan.
-    pub const HEAD: Kind = Kind {
-        number: 1,
-        least: 6,
-        most: 6,
-    };
+    // The bytes of a head's body.
+    pub const HEAD_BODY: u16 = 6;
 
-    // An interval, with up to eight listed budgets.
-    pub const INTERVAL: Kind = Kind {
-        number: 2,
-        least: 4,
-        most: 20,
-    };
+    // The bytes of the body of an interval without its listed budgets.
+    pub const INTERVAL_BODY: u16 = 4;
 
-    // A workload.
-    pub const WORKLOAD: Kind = Kind {
-        number: 3,
-        least: 12,
-        most: 12,
-    };
+    // The bytes of a workload's body.
+    pub const WORKLOAD_BODY: u16 = 12;
 
     // The bytes of a whole head: the body's length, the kind, the body.
-    pub const HEAD_BYTES: usize = 4 + Kind::HEAD.least as usize;
+    pub const HEAD_BYTES: usize = 4 + Kind::HEAD_BODY as usize;
 
     // The bytes of a whole workload record.
-    pub const WORKLOAD_BYTES: usize = 4 + Kind::WORKLOAD.least as usize;
+    pub const WORKLOAD_BYTES: usize = 4 + Kind::WORKLOAD_BODY as usize;
+
+    // The number in the file.
+    pub fn number(self) -> u16
+        ensures { result ≡ number_in_file self }
+    {
+        self as u16
+    }
+
+    // The least bytes of a body of this kind.
+    fn least(self) -> u16
+        ensures { result ≡ least_of self }
+    {
+        match self {
+            Kind::Head => Kind::HEAD_BODY,
+            Kind::Interval => Kind::INTERVAL_BODY,
+            Kind::Workload => Kind::WORKLOAD_BODY,
+        }
+    }
+
+    // The most bytes of a body of this kind.
+    fn most(self) -> u16
+        ensures { result ≡ most_of self }
+    {
+        match self {
+            Kind::Interval => Kind::INTERVAL_BODY + 2 * u16::from(Head::MOST_CORES),
+            _ => self.least(),
+        }
+    }
 }

@@ -4,30 +4,21 @@ ghost use Rattle.meaning.specs.Listing.{workload_at};
 ghost use Rattle.units.specs.Given.{workload_of};
 ghost use Rattle.record.specs.Given.{workloads_of};
 
-use units::{Periods, Requests, Slots, Workload};
+use units::{Periods, Requests, Slots, Workload, Workloads};
 
 // The workload at an index of the four lists.
-pub fn workload_in(
-    analysed: &[u8],
-    computing: &[u32],
-    requests: &[u32],
-    horizons: &[u16],
-    i: usize,
-) -> Workload
-    requires { (i < length analysed.now)
-        × (i < length computing.now)
-        × (i < length requests.now)
-        × (i < length horizons.now) }
-    ensures { workload_of result
-        ≡ workload_at
-        (workloads_of analysed.now computing.now requests.now horizons.now)
-        i }
+pub fn workload_in(workloads: Workloads, i: usize) -> Workload
+    requires { (i < length workloads.analysed.now)
+        × (i < length workloads.computing.now)
+        × (i < length workloads.requests.now)
+        × (i < length workloads.horizons.now) }
+    ensures { workload_of result ≡ workload_at (workloads_of workloads.entry) i }
 {
     Workload {
-        core: analysed[i],
-        computing: Slots(computing[i]),
-        requests: Requests(requests[i]),
-        horizon: Periods(horizons[i]),
+        core: workloads.analysed[i],
+        computing: Slots(workloads.computing[i]),
+        requests: Requests(workloads.requests[i]),
+        horizon: Periods(workloads.horizons[i]),
         start: Periods(0),
     }
 }

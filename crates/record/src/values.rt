@@ -3,19 +3,11 @@ ghost use Rattle.std.specs.Prelude.{◌≡◌, ◌+◌, ◌*◌, ◌^◌, ◌≤
 ghost use Rattle.std.specs.Int.Count.{ones};
 ghost use Rattle.meaning.specs.Plan.{most_cores};
 ghost use Rattle.meaning.specs.PlanFile.{byte_at, two_at, budget_at};
-ghost use Rattle.record.specs.Values.{HeadRead, ListedWithin, WorkloadRead};
+ghost use Rattle.record.specs.Values.{HeadRead, WorkloadRead};
 
-use crate::Kind;
 use crate::bytes::{four_at, two_at};
+use crate::{IntervalRecord, Kind, Record};
 use units::{Head, Periods, Requests, Slots, Workload};
-
-// The offset behind the record at an offset.
-pub fn behind(file: &[u8], at: usize) -> usize
-    requires { at + 4 + two_at file.now at ≤ length file.now }
-    ensures { result ≡ at + 4 + two_at file.now at }
-{
-    at + 4 + two_at(file, at) as usize
-}
 
 // The head of a file: a file can't carry the mark, so it is that of a plain plan.
 pub fn head_at(file: &[u8]) -> Head
@@ -24,7 +16,7 @@ pub fn head_at(file: &[u8]) -> Head
 {
     Head {
         cores: file[4],
-        per_period: Slots(two_at(file, 6) as u32),
+        per_period: Slots(u32::from(two_at(file, 6))),
         repeating: false,
     }
 }
@@ -34,23 +26,7 @@ pub fn intervals_at(file: &[u8]) -> usize
     requires { 10 ≤ length file.now }
     ensures { result ≡ two_at file.now 8 }
 {
-    two_at(file, 8) as usize
-}
-
-// The periods of the interval record at an offset.
-pub fn periods_at(file: &[u8], at: usize) -> Periods
-    requires { at + 8 ≤ length file.now }
-    ensures { result.0 ≡ two_at file.now (at + 6) }
-{
-    Periods(two_at(file, at + 6))
-}
-
-// The mask of the interval record at an offset.
-pub fn mask_at(file: &[u8], at: usize) -> u32
-    requires { at + 8 ≤ length file.now }
-    ensures { (result ≡ byte_at file.now (at + 4)) × (result < 256) }
-{
-    file[at + 4] as u32
+    usize::from(two_at(file, 8))
 }
 
 // The bit of a core, counted from 0, in a mask.
@@ -66,34 +42,62 @@ pub fn body_length(mask: u32) -> u16
     requires { mask < 256 }
     ensures { (result ≡ 4 + 2 * ones mask) × (result ≤ 20) }
 {
-    Kind::INTERVAL.least + 2 * u32::count_ones(mask) as u16
+    Kind::INTERVAL_BODY + 2 * mask.count_ones() as u16
 }
 
-// The budget of a core, counted from 0, in the interval record at an offset.
-pub fn budget_at(file: &[u8], at: usize, core: u8) -> u16
-    requires core_le_most_cores { core ≤ most_cores }
-    requires listed_within { ListedWithin file.now at }
-    ensures { result ≡ budget_at file.now at core }
-{
-    let mask = mask_at(file, at);
-    let bit = bit(core);
-    if mask / bit % 2 == 1 {
-        two_at(file, at + 8 + 2 * u32::count_ones(mask % bit) as usize)
-    } else {
-        0
+impl Record<'_> {
+    // The offset behind the record.
+    pub fn behind(self) -> usize
+        requires { self.at + 4 + two_at self.file.now self.at ≤ length self.file.now }
+        ensures { result ≡ self.entry.at + 4 + two_at self.entry.file.now self.entry.at }
+    {
+        self.at + 4 + usize::from(two_at(self.file, self.at))
+    }
+
+    // The periods of an interval record.
+    pub fn periods(self) -> Periods
+        requires { self.at + 8 ≤ length self.file.now }
+        ensures { result.0 ≡ two_at self.entry.file.now (self.entry.at + 6) }
+    {
+        Periods(two_at(self.file, self.at + 6))
+    }
+
+    // The mask of an interval record.
+    pub fn mask(self) -> u32
+        requires { self.at + 8 ≤ length self.file.now }
+        ensures { (result ≡ byte_at self.entry.file.now (self.entry.at + 4)) × (result < 256) }
+    {
+        u32::from(self.file[self.at + 4])
+    }
+
+    // The workload of a workload record; a file has no start, so it starts at 0.
+    pub fn workload(self) -> Workload
+        requires { self.at + 16 ≤ length self.file.now }
+        ensures { WorkloadRead self.entry.file.now self.entry.at result }
+    {
+        Workload {
+            core: self.file[self.at + 4],
+            computing: Slots(four_at(self.file, self.at + 6)),
+            requests: Requests(four_at(self.file, self.at + 10)),
+            horizon: Periods(two_at(self.file, self.at + 14)),
+            start: Periods(0),
+        }
     }
 }
 
-// The workload of the workload record at an offset; a file has no start, so it starts at 0.
-pub fn workload_at(file: &[u8], at: usize) -> Workload
-    requires { at + 16 ≤ length file.now }
-    ensures { WorkloadRead file.now at result }
-{
-    Workload {
-        core: file[at + 4],
-        computing: Slots(four_at(file, at + 6)),
-        requests: Requests(four_at(file, at + 10)),
-        horizon: Periods(two_at(file, at + 14)),
-        start: Periods(0),
+impl IntervalRecord<'_> {
+    // The budget of a core, counted from 0.
+    pub fn budget(self, core: u8) -> u16
+        requires { core ≤ most_cores }
+        ensures { result ≡ budget_at self.entry.record.file.now self.entry.record.at core }
+    {
+        let Record { file, at } = self.record;
+        let mask = self.record.mask();
+        let bit = bit(core);
+        if mask / bit % 2 == 1 {
+            two_at(file, at + 8 + 2 * (mask % bit).count_ones() as usize)
+        } else {
+            0
+        }
     }
 }

@@ -1,10 +1,9 @@
 -- The least periods that hold so many slots, where a plan can have so many.
-use Rattle.std.specs.Prelude.{◌≡◌, ℕ, ◌*◌, ◌≤◌, ◌<◌}
+use Rattle.std.specs.Prelude.{◌≡◌, None, ℕ, ◌*◌, ◌≤◌, ◌<◌}
 use Rattle.std.proofs.Common.{⊎_elim, lt_irrefl, mul-le-mul, arith, ne_eqb}
 use Rattle.std.proofs.lemmas.Bool.{lt-leb}
 use Rattle.meaning.specs.Plan.{most_per_period, most_periods, most_work}
 use Rattle.units.specs.Units.{periods_of, periods_holding}
-use Rattle.units.specs.declared.MadePeriods.{MadePeriods}
 use Rattle.number_laws.specs.Order.{le_or_lt}
 use Rattle.span_laws.specs.TermsInSlots.{holding, holding_enough}
 
@@ -23,5 +22,5 @@ held_past q n some few long =
     (le_or_lt (holding q n) most_periods)
 
 -- so no plan can have so many
-pub held_outside : (q n : ℕ) → 1 ≤ q → q ≤ most_per_period → most_work < n → periods_of (holding q n) ≡ MadePeriods.Outside
+pub held_outside : (q n : ℕ) → 1 ≤ q → q ≤ most_per_period → most_work < n → periods_of (holding q n) ≡ None
 held_outside q n some few long = rw (lt-leb (holding q n) most_periods (held_past q n some few long))

@@ -1,3 +1,4 @@
 pub mod Held
 pub mod Walked
+pub mod Terms
 pub mod Searched

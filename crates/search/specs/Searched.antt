@@ -1,27 +1,26 @@
 -- What the search over the terms starts from, and what it ends with.
-use Rattle.std.specs.Prelude.{◌≡◌, List, ℕ, ◌+◌, ◌≤◌, ◌<◌}
-use Rattle.meaning.specs.Plan.{Workload}
-use Rattle.meaning.specs.Span.{work}
-use Rattle.placement_laws.specs.Filling.{Pick}
-use Rattle.span_laws.specs.TermsInSlots.{holding, TermReached, RisingTerms}
-use Rattle.search.specs.Walked.{term_after}
-use Rattle.search.specs.declared.Ending.{Ending}
+use Rattle.std.specs.Prelude.{◌≡◌, Result, Ok, Err, List, ℕ, ◌+◌, ◌≤◌, ◌<◌}
+use Rattle.span_laws.specs.TermsInSlots.{TermReached, RisingTerms}
+use Rattle.units.specs.declared.Refusal.{Refusal}
+use Rattle.search.specs.Terms.{first_of, next_of}
+use Rattle.search.specs.declared.Met.{Met}
+use Rattle.search.specs.declared.terms.Terms.{Terms}
 
 -- the ending of a search over terms from a first one: a term within the horizon that is equal to the next, with the rounds; or a term past the horizon
-abbrev pub EndsWith : (ℕ → ℕ) → ℕ → ℕ → Ending → Type 0
-EndsWith next first horizon (Ending.Span span rounds) =
+abbrev pub EndsWith : (ℕ → ℕ) → ℕ → ℕ → Result Met Refusal → Type 0
+EndsWith next first horizon (Ok met) =
     (k : ℕ)
-    × TermReached next first horizon k span.0
-    × (span.0 ≤ horizon)
-    × (next span.0 ≡ span.0)
-    × (rounds ≡ k + 1)
-EndsWith next first horizon Ending.NoSpan = (k : ℕ) × (t : ℕ) × TermReached next first horizon k t × (horizon < t)
+    × TermReached next first horizon k met.span.0
+    × (met.span.0 ≤ horizon)
+    × (next met.span.0 ≡ met.span.0)
+    × (met.rounds ≡ k + 1)
+EndsWith next first horizon (Err f) =
+    (f ≡ Refusal.NoSpan) × ((k : ℕ) × (t : ℕ) × TermReached next first horizon k t × (horizon < t))
 
--- the terms of a workload by the bases and an order of segments climb
-abbrev pub TermsClimb : ℕ → List ℕ → (ℕ → List ℕ) → List Pick → Workload → Type 0
-TermsClimb per_period bases share o w = RisingTerms (term_after per_period bases share o w) (holding per_period (work w))
+-- the terms of a workload climb, where `share` gives the shares at every W
+abbrev pub TermsClimb : Terms → (ℕ → List ℕ) → Type 0
+TermsClimb t share = RisingTerms (next_of t share) (first_of t)
 
 -- the ending of the search over them
-abbrev pub Searched : ℕ → List ℕ → (ℕ → List ℕ) → List Pick → Workload → Ending → Type 0
-Searched per_period bases share o w r =
-    EndsWith (term_after per_period bases share o w) (holding per_period (work w)) w.horizon r
+abbrev pub Searched : Terms → (ℕ → List ℕ) → Result Met Refusal → Type 0
+Searched t share r = EndsWith (next_of t share) (first_of t) t.workload.horizon.0 r

@@ -2,15 +2,14 @@
 use Rattle.std.specs.Prelude.{◌≡◌, List, ◌++◌, length, drop}
 use Rattle.std.proofs.Math.Path.{ap, fun_ext}
 use Rattle.std.proofs.Common.{◌∙◌}
-use Prim.Native.Nat.{ℕ, ◌+◌, ◌≤◌}
+use Prim.Native.Nat.{ℕ, ◌+◌}
 use Rattle.meaning.specs.Fraction.{round_up}
-use Rattle.meaning.specs.Plan.{Workload, most_intervals}
+use Rattle.meaning.specs.Plan.{Workload}
 use Rattle.meaning.specs.Span.{work}
 use Rattle.number_laws.specs.Lists.{list_from}
 use Rattle.placement_laws.specs.Filling.{Pick, fill}
 use Rattle.placement_laws.specs.FillingAnswers.{filled_stall}
 use Rattle.span_laws.specs.TermsInSlots.{holding}
-use Rattle.segments.specs.Packed.{between, Runs}
 use Rattle.stall.specs.Walks.{number_at}
 use Rattle.shares.specs.Shares.{Reads}
 
@@ -52,9 +51,3 @@ module _ (bases ws : List ℕ) (o : List Pick) (requests : ℕ) (array : List �
         stall = gives.stall ∙ stall_in_array;
         placed = gives.placed ∙ ap (λ (xs : List ℕ). xs ++ drop n place) (placed_in_array n);
       }
-
--- segments in the first so many places that can be walked, and bases that can be summed before
-pub record Walkable (picks : List ℕ) (count : ℕ) (bases : List ℕ) : Type 0 where
-  pub fits : count ≤ 512
-  pub runs : Runs (between 0 count picks)
-  pub few : length bases ≤ most_intervals

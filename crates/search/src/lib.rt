@@ -2,95 +2,61 @@
 #![tactic(auto)]
 
 ghost use Rattle.std.specs.Prelude.{◌≡◌, ◌+◌, ◌≤◌, length};
-ghost use Rattle.meaning.specs.Plan.{most_per_period, most_intervals};
-ghost use Rattle.meaning.specs.Span.{work};
-ghost use Rattle.span_laws.specs.TermsInSlots.{holding};
+ghost use Rattle.meaning.specs.Plan.{most_intervals};
 ghost use Rattle.units.specs.Units.{periods_of};
-ghost use Rattle.units.specs.Given.{workload_of};
-ghost use Rattle.segments.specs.Packed.{between};
 ghost use Rattle.shares.specs.Part.{Begins};
 ghost use Rattle.shares.specs.Shares.{shares_given};
-ghost use Rattle.search.specs.Walked.{Walkable, stall_with};
+ghost use Rattle.search.specs.Terms.{held_with, stall_at};
 ghost use Rattle.search.specs.Searched.{TermsClimb, Searched};
 
 use shares::Beginning;
-use units::{Head, MadePeriods, MadeSlots, Periods, Slots, Workload};
+use units::{Periods, Refusal, Slots};
 
-// What the search ends with: the span and the rounds, or none up to the horizon.
-#[derive(Clone, Copy)]
-pub enum Ending {
-    Span { span: Periods, rounds: u32 },
-    NoSpan,
+mod terms; // terms.rt: what 004's terms of a workload are made from
+
+pub use terms::Terms;
+
+// The term that the search ends at, and the rounds up to it.
+#[derive(Clone, Copy, Debug, PartialEq, Eq)]
+pub struct Met {
+    pub span: Periods,
+    pub rounds: u32,
 }
 
 // The term for a stall: the least periods that hold it with the computing and the requests, where a plan can have so many.
-fn term_for(per_period: Slots, workload: Workload, stall: Slots) -> MadePeriods
-    requires { (1 ≤ per_period.0) × (per_period.0 ≤ most_per_period) }
-    ensures { result ≡ periods_of (holding per_period.0 (work (workload_of workload) + stall.0)) }
+fn term_for(terms: Terms, stall: Slots) -> Option<Periods>
+    ensures { result ≡ periods_of (held_with terms.entry stall.0) }
 {
-    let work = workload.computing.0 as u64 + workload.requests.slots().0 as u64;
-    let MadeSlots::Within(sum) = Slots::checked(work + stall.0 as u64) else {
-        return MadePeriods::Outside;
-    };
-    sum.periods(per_period)
+    let work = u64::from(terms.workload.computing.0) + u64::from(terms.workload.requests.slots().0);
+    Slots::checked(work + u64::from(stall.0))?.periods(terms.per_period)
 }
 
 // The term after one at which the intervals have these shares.
-fn next_term(
-    picks: &[u64; 512],
-    count: usize,
-    bases: &[u16],
-    shares: &[u16; 64],
-    per_period: Slots,
-    workload: Workload,
-) -> MadePeriods
-    requires { (1 ≤ per_period.0) × (per_period.0 ≤ most_per_period) × Walkable picks.now count bases.now }
-    ensures { result ≡ periods_of (holding per_period.0 (work (workload_of workload) + stall_with bases.now shares.now (between 0 count picks.now) workload.requests.0)) }
+fn next_term(terms: Terms, shares: &[u16; 64]) -> Option<Periods>
+    ensures { result ≡ periods_of (held_with terms.entry (stall_at terms.entry shares.now)) }
 {
-    let requests = workload.requests;
-    let MadeSlots::Within(stall) = stall::greatest(picks, count, bases, shares, requests) else {
-        return MadePeriods::Outside;
-    };
-    term_for(per_period, workload, stall)
+    let stall = stall::greatest(terms.prepared, shares, terms.workload.requests)?;
+    term_for(terms, stall)
 }
 
-// The search over the terms from a beginning in the plan: it ends at the first term equal to the one before it, or past the horizon.
-pub fn search(
-    picks: &[u64; 512],
-    count: usize,
-    bases: &[u16],
-    head: Head,
-    begin: Beginning,
-    lengths: &[u16],
-    workload: Workload,
-) -> Ending
-    requires { (1 ≤ head.per_period.0) × (head.per_period.0 ≤ most_per_period) × Begins lengths.now begin × (length lengths.now ≤ most_intervals) × Walkable picks.now count bases.now × TermsClimb head.per_period.0 bases.now (shares_given begin.repeating lengths.now begin.start.0) (between 0 count picks.now) (workload_of workload) }
-    ensures { Searched head.per_period.0 bases.now (shares_given begin.repeating lengths.now begin.start.0) (between 0 count picks.now) (workload_of workload) result }
+// The search over the terms from a beginning in the plan, a loop that yields by break as document 01 names it: it ends at the first term equal to the one before it, or past the horizon.
+pub fn search(terms: Terms, begin: Beginning, lengths: &[u16]) -> Result<Met, Refusal>
+    requires { Begins lengths.now begin × (length lengths.now ≤ most_intervals) × TermsClimb terms (shares_given begin.repeating lengths.now begin.start.0) }
+    ensures { Searched terms.entry (shares_given begin.repeating lengths.now begin.start.0) result }
 {
-    let made = term_for(head.per_period, workload, Slots(0));
-    let MadePeriods::Within(first) = made else {
-        return Ending::NoSpan;
-    };
-    let mut term = first;
+    let mut term = term_for(terms, Slots(0)).ok_or(Refusal::NoSpan)?;
     let mut rounds: u32 = 0;
     loop {
-        if workload.horizon.0 < term.0 {
-            break Ending::NoSpan;
+        if terms.workload.horizon.0 < term.0 {
+            break Err(Refusal::NoSpan);
         }
         let shares = shares::shares_of(begin, lengths, term);
-        let MadePeriods::Within(next) = next_term(
-            picks,
-            count,
-            bases,
-            &shares,
-            head.per_period,
-            workload,
-        ) else {
-            break Ending::NoSpan;
+        let Some(next) = next_term(terms, &shares) else {
+            break Err(Refusal::NoSpan);
         };
         rounds += 1;
         if next.0 == term.0 {
-            break Ending::Span { span: term, rounds };
+            break Ok(Met { span: term, rounds });
         }
         term = next;
     }

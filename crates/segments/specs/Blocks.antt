@@ -3,19 +3,19 @@ use Rattle.std.specs.Prelude.{List, [], ℕ, ◌-◌, ◌≤◌, ◌<◌, get_or
 use Rattle.meaning.specs.Curve.{Curve, Rising, Climbing, Concave}
 use Rattle.number_laws.specs.Lists.{list_from}
 use Rattle.units.specs.Given.{corner_at}
-use Rattle.units.specs.declared.Block.{Block}
+use Rattle.units.specs.declared.corner.Block.{Block}
 
 -- the curve of a block's corners
 abbrev pub curve_of : Block → Curve
 curve_of b =
     record {
-      first = corner_at b.rates b.stalls 0;
-      rest = list_from 1 (b.count - 1) (corner_at b.rates b.stalls);
+      first = corner_at b.corners 0;
+      rest = list_from 1 (b.count - 1) (corner_at b.corners);
     }
 
 -- what stands past the end of an array of blocks
 abbrev pub no_block : Block
-no_block = record { rates = []; stalls = []; count = 0 }
+no_block = record { corners = []; count = 0 }
 
 -- the curve of an interval, counted from 0
 abbrev pub curve_at : List Block → ℕ → Curve

@@ -1,6 +1,5 @@
 pub mod Blocks
-pub mod Packed
-pub mod Stored
-pub mod Places
+pub mod Picks
+pub mod Listed
 pub mod Corners
 pub mod SegmentLists

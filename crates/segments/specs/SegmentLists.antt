@@ -1,132 +1,78 @@
 -- Laws on listing the segments of each interval one after another.
-use Rattle.std.specs.Prelude.{◌≡◌, List, ℕ, suc, ◌+◌, ◌*◌, ◌≤◌, ◌<◌, length, get_or, set}
-use Rattle.std.proofs.Common.{sym, ap, ◌∙◌, subst, ⊎_elim, le_refl, le_trans, le_of_eq, lt_irrefl, eq-or-lt_of_le, le_of_suc-le-suc, not-suc-le-zero, add-one, arith, length-set, get_or-set_same, get_or-set_other}
+use Rattle.std.specs.Prelude.{◌≡◌, refl, List, [], ◌∷◌, ◌++◌, ℕ, zero, suc, ◌+◌, ◌-◌, ◌*◌, ◌≤◌, length, drop}
+use Rattle.std.proofs.Common.{sym, ap, ap₂, ◌∙◌, zero-add, add-zero, add-suc, suc-add, add-one, arith, take_all}
+use Rattle.std.proofs.lemmas.List.{length-append, length-map, length-drop, take-append-le, drop-append-le}
 use Rattle.meaning.specs.Curve.{Curve}
-use Rattle.placement_laws.specs.OrderMerged.{picks_from}
-use Rattle.segments.specs.Packed.{between}
-use Rattle.segments.specs.Stored.{SegmentsListed, Written}
-use Rattle.segments.specs.Places.{between_same}
+use Rattle.meaning.specs.Plan.{sum_of}
+use Rattle.number_laws.specs.Lists.{list_from, sum_append}
+use Rattle.placement_laws.specs.Filling.{Pick}
+use Rattle.segments.specs.Listed.{groups_of, interval_picks, Listed}
+use Rattle.segments.specs.Picks.{pick_of, picks_of}
+use Rattle.segments.specs.declared.segment.Segment.{Segment}
 
--- where the listing stands: the segments of the first i intervals are listed, up to a place
-pub record FirstListed (i : ℕ) (curve : ℕ → Curve) (picks starts : List ℕ) (at : ℕ) : Type 0 where
-  pub listed : SegmentsListed i curve picks starts
-  pub place : get_or starts i 0 ≡ at
-  pub few : at ≤ 8 * i
-  pub long : length starts ≡ 65
+-- a further group at the end
+pub groups_push : {A : Type 0} (counts : List ℕ) (n : ℕ) (xs ys : List A)
+    → sum_of counts ≡ length xs
+    → n ≡ length ys
+    → groups_of (counts ++ (n ∷ [])) (xs ++ ys) ≡ groups_of counts xs ++ (ys ∷ [])
+unfolding groups_of
+groups_push {A} [] n [] ys whole e = ap (λ (g : List A). g ∷ []) (take_all n ys (omega (arith, e)))
+groups_push [] n (x ∷ xs) ys whole e = absurd (omega (arith, whole))
+groups_push {A} (m ∷ counts) n xs ys whole e =
+    let fits : m ≤ length xs = omega (arith, whole) in
+    let rest : sum_of counts ≡ length (drop m xs) = omega (arith, whole, length-drop m xs) in
+    ap₂ {A = List A} {B = List (List A)} {C = List (List A)} ◌∷◌
+    (take-append-le m xs ys fits)
+    (ap (groups_of (counts ++ (n ∷ []))) (drop-append-le m xs ys fits) ∙ groups_push counts n (drop m xs) ys rest e)
+
+-- the last of a list
+list_last : {A : Type 0} (i n : ℕ) (f : ℕ → A) → list_from i (suc n) f ≡ list_from i n f ++ (f (i + n) ∷ [])
+unfolding list_from
+list_last {A} i zero f = ap (λ (j : ℕ). f j ∷ []) (sym (add-zero i))
+list_last {A} i (suc n) f =
+    ap (λ (l : List A). f i ∷ l) (list_last (suc i) n f)
+    ∙ ap (λ (j : ℕ). f i ∷ (list_from (suc i) n f ++ (f j ∷ []))) (suc-add i n ∙ sym (add-suc i n))
+
+-- where the listing stands: the segments of the first i intervals are listed
+pub record FirstListed (i : ℕ) (curve : ℕ → Curve) (segments : List Segment) (counts : List ℕ) : Type 0 where
+  pub few : length segments ≤ 8 * i
+  pub many : length counts ≡ i
+  pub whole : sum_of counts ≡ length segments
+  pub groups : groups_of counts (picks_of segments) ≡ list_from 0 i (interval_picks curve)
 
 -- none is listed yet
-pub listed_none : {curve : ℕ → Curve} {picks : List ℕ} (starts : List ℕ)
-    → length picks ≡ 512
-    → length starts ≡ 65
-    → FirstListed 0 curve picks (set starts 0 0) 0
-listed_none starts long many =
-    let first : get_or (set starts 0 0) 0 0 ≡ 0 = get_or-set_same starts 0 0 0 (omega (arith, many)) in
-    record {
-      listed =
-          record {
-            long = long;
-            places =
-                record {
-                  first = first;
-                  rising =
-                      λ i j le none.
-                      let here : i ≡ 0 = omega (arith, le, none) in
-                      let there : j ≡ 0 = omega (arith, none) in
-                      le_of_eq (ap (λ (n : ℕ). get_or (set starts 0 0) n 0) (here ∙ sym there));
-                  fits = omega (arith, first);
-                };
-            segments = λ i h. absurd (not-suc-le-zero h);
-          };
-      place = first;
-      few = omega arith;
-      long = length-set starts 0 0 ∙ many;
-    }
+pub listed_none : {curve : ℕ → Curve} → FirstListed 0 curve [] []
+unfolding groups_of list_from
+listed_none = record { few = omega arith; many = refl; whole = refl; groups = refl }
 
-module _ {i : ℕ} {curve : ℕ → Curve} {picks starts : List ℕ} {at : ℕ} (now : FirstListed i curve picks starts at)
-    {after : List ℕ} {end : ℕ} (written : Written i (curve i) picks after at end) (inside : i < 64) where
-  -- where the intervals start, with the next one's end
-  abbrev next : List ℕ
-  next = set starts (suc i) end
+-- one more interval is listed
+pub listed_more : {i : ℕ} {curve : ℕ → Curve} {segments after : List Segment} {counts : List ℕ}
+    → FirstListed i curve segments counts
+    → picks_of after ≡ picks_of segments ++ interval_picks curve i
+    → length after ≤ length segments + 8
+    → FirstListed (i + 1) curve after (counts ++ ((length after - length segments) ∷ []))
+listed_more {i} {curve} {segments} {after} {counts} now pushed few =
+    let n = length after - length segments in
+    let ps : List Pick = interval_picks curve i in
+    let longer : length after ≡ length segments + length ps =
+    omega (arith, length-map after pick_of, length-map segments pick_of, ap length pushed, length-append (picks_of segments) ps) in
+    let whole : sum_of counts ≡ length (picks_of segments) = omega (arith, now.whole, length-map segments pick_of) in
+    let sum = sum_append counts (n ∷ []) in
+    rw (add-one i)
+    (record {
+      few = omega (arith, few, now.few);
+      many = omega (arith, length-append counts (n ∷ []), now.many);
+      whole = omega (arith, sum, now.whole, longer);
+      groups =
+          rw pushed (groups_push counts n (picks_of segments) ps whole (omega (arith, longer)))
+          ∙ ap (λ (gs : List (List Pick)). gs ++ (ps ∷ [])) now.groups
+          ∙ ap (λ (j : ℕ). list_from 0 i (interval_picks curve) ++ (interval_picks curve j ∷ [])) (sym (zero-add i))
+          ∙ sym (list_last 0 i (interval_picks curve));
+    })
 
-  -- what stood before stays
-  before : (j : ℕ) → j ≤ i → get_or next j 0 ≡ get_or starts j 0
-  before j le = get_or-set_other starts (suc i) j end 0 (λ e. lt_irrefl j (omega (arith, e, le)))
-
-  -- the next one's end
-  last : get_or next (suc i) 0 ≡ end
-  last = get_or-set_same starts (suc i) end 0 (omega (arith, inside, now.long))
-
-  -- the places rise
-  rises : (a b : ℕ) → a ≤ b → b ≤ suc i → get_or next a 0 ≤ get_or next b 0
-  rises a b le most =
-      ⊎_elim
-      (λ (e : b ≡ suc i).
-      ⊎_elim
-      (λ same. le_of_eq (ap (λ (n : ℕ). get_or next n 0) same))
-      (λ lt.
-      let low : a ≤ i = omega (arith, lt, e) in
-      omega (
-        arith,
-        before a low,
-        ap (λ (n : ℕ). get_or next n 0) e,
-        last,
-        now.listed.places.rising a i low (le_refl i),
-        now.place,
-        written.rises,
-      ))
-      (eq-or-lt_of_le le))
-      (λ (lt : b < suc i).
-      let high : b ≤ i = le_of_suc-le-suc lt in
-      omega (
-        arith,
-        before a (le_trans le high),
-        before b high,
-        now.listed.places.rising a b le high,
-      ))
-      (eq-or-lt_of_le most)
-
-  -- each interval's segments are where they should be
-  segments : (j : ℕ)
-      → j < suc i
-      → between (get_or next j 0) (get_or next (suc j) 0) after ≡ picks_from j (curve j).first (curve j).rest
-  segments j lt =
-      ⊎_elim
-      (λ e.
-      subst
-      (λ (k : ℕ). between (get_or next k 0) (get_or next (suc k) 0) after ≡ picks_from k (curve k).first (curve k).rest)
-      (sym e)
-      (rw (before i (le_refl i) ∙ now.place, last) written.segments))
-      (λ earlier.
-      rw (before j (le_of_suc-le-suc lt), before (suc j) earlier)
-      (between_same
-      (get_or starts j 0)
-      (get_or starts (suc j) 0)
-      after
-      picks
-      (λ k h.
-      written.kept.same k
-      (omega (arith, h, now.place, now.listed.places.rising (suc j) i earlier (le_refl i))))
-      (now.listed.places.rising j (suc j) (omega arith) earlier)
-      ∙ now.listed.segments j earlier))
-      (eq-or-lt_of_le (le_of_suc-le-suc lt))
-
-  -- one more interval is listed
-  pub listed_more : FirstListed (i + 1) curve after (set starts (i + 1) end) end
-  listed_more =
-      rw (add-one i)
-      (record {
-        listed =
-            record {
-              long = written.kept.long ∙ now.listed.long;
-              places =
-                  record {
-                    first = before 0 (omega arith) ∙ now.listed.places.first;
-                    rising = rises;
-                    fits = omega (arith, last, written.fits, now.few, inside);
-                  };
-              segments = segments;
-            };
-        place = last;
-        few = omega (arith, written.fits, now.few);
-        long = length-set starts (suc i) end ∙ now.long;
-      })
+-- all are listed
+pub listed_all : {n : ℕ} {curve : ℕ → Curve} {segments : List Segment} {counts : List ℕ}
+    → FirstListed n curve segments counts
+    → n ≤ 64
+    → Listed n curve segments counts
+listed_all now most = record { fits = omega (arith, now.few, most); whole = now.whole; groups = now.groups }

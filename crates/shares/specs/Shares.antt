@@ -1,18 +1,16 @@
 -- The shares as they are made: those of a part of a plan are added, interval after interval; at W from a start those of the part that begins there, and those of the later cycles.
 use Rattle.std.specs.Prelude.{◌≡◌, refl, Bool, true, false, cond, List, [], ◌∷◌, ◌++◌, ℕ, zero, suc, ◌+◌, ◌-◌, ◌*◌, ◌/◌, ◌%◌, ◌≤◌, ◌<◌, min, length, get_or, set, take, drop, replicate}
 use Rattle.std.proofs.Math.Path.{sym, ap}
-use Rattle.std.proofs.Common.{ap₂, ◌∙◌, subst, ⊎_elim, le_trans, mul-le-mul_left, div-add-mod', zero-add, add-one, arith, length-set, length-take, length-drop, drop-cons, get_or-take, get_or-set_same, get_or-set_other}
-use Rattle.std.proofs.Math.Nat.{min-le_left}
+use Rattle.std.proofs.Common.{◌≢◌, below_more, le_refl, take_at, ap₂, ◌∙◌, subst, ⊎_elim, mul-le-mul_left, div-add-mod', arith, length-set, length-drop, drop-cons, get_or-set_same, get_or-set_other}
 use Rattle.std.proofs.lemmas.List.{length-replicate}
 use Rattle.std.proofs.Math.ListN.{get_or-eq_default}
-use Rattle.std.proofs.Math.Arith.{lt_of_le-ne}
 use Rattle.meaning.specs.Plan.{Plan, sum_of, most_periods, most_intervals, lengths_from}
 use Rattle.meaning.specs.Placement.{shares, shares_at, together, later_periods, shares_from}
-use Rattle.number_laws.specs.Order.{le_or_lt, eq_or_ne}
+use Rattle.number_laws.specs.Order.{le_or_lt}
 use Rattle.number_laws.specs.Zeros.{zeros}
 use Rattle.placement_laws.specs.Shares.{many_shares}
 use Rattle.placement_laws.specs.PlanShares.{lengths_count, lengths_sum, together_at, no_later, whole_part}
-use Rattle.shares.specs.Part.{part_from, Begins}
+use Rattle.shares.specs.Part.{part_from, past_zeros, Begins}
 use Rattle.shares.specs.declared.Beginning.{Beginning}
 
 -- an array has these numbers from its front, and 0 past them
@@ -39,84 +37,59 @@ pub record Added (array : List ℕ) (interval left : ℕ) (lengths : List ℕ) (
   pub long : length sum ≡ most_intervals
   pub each : (j : ℕ) → get_or sum j 0 ≡ get_or array j 0 + get_or (shares full periods (part_from interval left lengths)) j 0
 
--- in its first k places an array has these shares added to those of another; the other places are as there
+-- the numbers of `all` are added to those of an array in its first k places; the other places are as they were
 pub record AddedTo (array all : List ℕ) (k : ℕ) (sum : List ℕ) : Type 0 where
   pub long : length sum ≡ most_intervals
-  pub each : (j : ℕ) → get_or sum j 0 ≡ get_or array j 0 + get_or (take k all) j 0
+  pub behind : (j : ℕ) → j < k → get_or sum j 0 ≡ get_or array j 0 + get_or all j 0
+  pub ahead : (j : ℕ) → k ≤ j → get_or sum j 0 ≡ get_or array j 0
 
--- one place more
-pub added_more : (array all : List ℕ) (k : ℕ) (sum : List ℕ) (n : ℕ)
-    → k < most_intervals
-    → AddedTo array all k sum
-    → n ≡ get_or array k 0 + get_or all k 0
-    → AddedTo array all (k + 1) (set sum k n)
-added_more array all k sum n inside so_far here =
-    record {
-      long = length-set sum k n ∙ so_far.long;
-      each =
-          λ j.
-          ⊎_elim
-          (λ same.
-          rw same
-          (get_or-set_same sum k n 0 (rw so_far.long inside)
-          ∙ here
-          ∙ ap (λ (m : ℕ). get_or array k 0 + m) (sym (get_or-take (k + 1) all k 0 (omega arith)))))
-          (λ other.
-          get_or-set_other sum k j n 0 other
-          ∙ so_far.each j
-          ∙ ap (λ (m : ℕ). get_or array j 0 + m) (same_at j other))
-          (eq_or_ne j k);
-    }
-  where
-    past : (m j : ℕ) → m ≤ j → get_or (take m all) j 0 ≡ 0
-    past m j le = get_or-eq_default (take m all) 0 (le_trans (rw (length-take m all) (min-le_left m (length all))) le)
+module _ {array all : List ℕ} {k : ℕ} {sum : List ℕ} (p : AddedTo array all k sum) where
+  -- one place more
+  pub added_more : (n : ℕ) → k < most_intervals → n ≡ get_or sum k 0 + get_or all k 0 → AddedTo array all (k + 1) (set sum k n)
+  added_more n inside here =
+      let within : k < length sum = omega (arith, p.long) in
+      record {
+        long = length-set sum k n ∙ p.long;
+        behind =
+            below_more _ _
+            (λ j before. let other : j ≢ k = omega arith in rw get_or-set_other (p.behind j before))
+            (rw get_or-set_same (here ∙ ap (λ (m : ℕ). m + get_or all k 0) (p.ahead k (le_refl k))));
+        ahead = λ j past. let other : j ≢ k = omega arith in rw get_or-set_other (p.ahead j (omega arith));
+      }
 
-    same_at : (j : ℕ) → (j ≡ k → ⊥) → get_or (take k all) j 0 ≡ get_or (take (k + 1) all) j 0
-    same_at j other =
-        ⊎_elim
-        (λ beyond.
-        let next : k + 1 ≤ j = omega (arith, lt_of_le-ne beyond (λ e. other (sym e))) in
-        past k j beyond ∙ sym (past (k + 1) j next))
-        (λ before. get_or-take k all j 0 before ∙ sym (get_or-take (k + 1) all j 0 (omega (arith, before))))
-        (le_or_lt k j)
+  -- all are added
+  pub added_all : length all ≤ k → (j : ℕ) → get_or sum j 0 ≡ get_or array j 0 + get_or all j 0
+  added_all whole j =
+      ⊎_elim
+      (λ past. let beyond : length all ≤ j = omega arith in omega (arith, p.ahead j past, get_or-eq_default all 0 beyond))
+      (p.behind j)
+      (le_or_lt k j)
 
--- those before the part have a share of 0
-pub none_before : (cycles w n : ℕ) (ls : List ℕ) (j : ℕ) → get_or (take n (shares cycles w (replicate n 0 ++ ls))) j 0 ≡ 0
+-- those before the part have a share of 0, and leave all periods to it
+pub part_shares : (cycles w n : ℕ) (ls : List ℕ) → shares cycles w (replicate n 0 ++ ls) ≡ replicate n 0 ++ shares cycles w ls
 unfolding shares
-none_before cycles w zero ls j = refl
-none_before cycles w (suc n) ls zero = omega arith
-none_before cycles w (suc n) ls (suc j) = none_before cycles (w - 0) n ls j
-
--- and leave all periods to those of the part
-pub all_behind : (cycles w n : ℕ) (ls : List ℕ)
-    → drop n (shares cycles w (replicate n 0 ++ ls)) ≡ shares cycles w (drop n (replicate n 0 ++ ls))
-unfolding shares
-all_behind cycles w zero ls = refl
-all_behind cycles w (suc n) ls =
+part_shares cycles w zero ls = refl
+part_shares cycles w (suc n) ls =
     let all : w - 0 ≡ w = omega arith in
-    all_behind cycles (w - 0) n ls ∙ ap (λ (m : ℕ). shares cycles m (drop n (replicate n 0 ++ ls))) all
+    ap₂ ◌∷◌ (omega arith) (part_shares cycles (w - 0) n ls ∙ ap (λ (m : ℕ). replicate n 0 ++ shares cycles m ls) all)
 
--- where so much of the last cycle's periods is left at interval i, so that the shares from there on are those of the rest
-module _ (cycles w left : ℕ) (ls : List ℕ) (i : ℕ) (h : i < length ls)
-    (rest : drop i (shares cycles w ls) ≡ shares cycles left (drop i ls)) where
-  from_here : get_or (shares cycles w ls) i 0 ∷ drop (suc i) (shares cycles w ls)
-      ≡ (cycles * get_or ls i 0 + min (get_or ls i 0) left) ∷ shares cycles (left - get_or ls i 0) (drop (suc i) ls)
-  unfolding shares
-  from_here =
-      sym (drop-cons (shares cycles w ls) i 0 (rw (many_shares cycles w ls) h))
-      ∙ rest
-      ∙ ap (shares cycles left) (drop-cons ls i 0 h)
+-- so none is read there
+pub none_before : (cycles w n : ℕ) (ls : List ℕ) (j : ℕ) → get_or (take n (shares cycles w (replicate n 0 ++ ls))) j 0 ≡ 0
+none_before cycles w n ls j =
+    rw (part_shares cycles w n ls, take_at (replicate n 0) (shares cycles w ls) n (length-replicate n 0)) (zeros n j)
 
-  -- interval i gets its length for each full cycle, and its own length, or what is left
-  pub share_here : get_or (shares cycles w ls) i 0 ≡ cycles * get_or ls i 0 + min (get_or ls i 0) left
-  share_here = cc from_here
+-- interval i gets its length for each full cycle, and of the last one its own length, or what those before it leave
+share_at : (cycles w : ℕ) (ls : List ℕ) (i : ℕ) → i < length ls
+    → get_or (shares cycles w ls) i 0 ≡ cycles * get_or ls i 0 + min (get_or ls i 0) (w - sum_of (take i ls))
+unfolding shares
+share_at cycles w [] i h = absurd (omega arith)
+share_at cycles w (l ∷ ls) zero h = omega arith
+share_at cycles w (l ∷ ls) (suc i) h = omega (arith, share_at cycles (w - l) ls i (omega arith))
 
-  -- and the rest goes on with what is left then
-  pub shares_after : drop (i + 1) (shares cycles w ls) ≡ shares cycles (left - min (get_or ls i 0) left) (drop (i + 1) ls)
-  shares_after =
-      let fewer : left - get_or ls i 0 ≡ left - min (get_or ls i 0) left = omega arith in
-      let later : drop (suc i) (shares cycles w ls) ≡ shares cycles (left - get_or ls i 0) (drop (suc i) ls) = cc from_here in
-      rw (add-one, later, fewer)
+-- the same of interval i of the part
+pub share_here : (cycles w n : ℕ) (ls : List ℕ) (i : ℕ) → i < length ls
+    → get_or (shares cycles w (replicate n 0 ++ ls)) (n + i) 0 ≡ cycles * get_or ls i 0 + min (get_or ls i 0) (w - sum_of (take i ls))
+share_here cycles w n ls i h = rw (part_shares cycles w n ls) (past_zeros n (shares cycles w ls) i ∙ share_at cycles w ls i h)
 
 -- an array of no shares
 abbrev pub no_shares : List ℕ
@@ -138,7 +111,7 @@ later_split true w ahead n e more =
 later_split false w ahead n e more = absurd (more e)
 
 -- at the beginning of a plan of these lengths, for so many periods
-module _ (ls : List ℕ) (b : Beginning) (w : ℕ) (begins : Begins ls b) where
+module _ {ls : List ℕ} {b : Beginning} (begins : Begins ls b) (w : ℕ) where
   -- the part that begins there
   abbrev part : List ℕ
   part = drop b.interval ls
@@ -168,14 +141,10 @@ module _ (ls : List ℕ) (b : Beginning) (w : ℕ) (begins : Begins ls b) where
         few = λ j. omega (arith, zeros 64 j, short);
       }
 
-  module _ (array : List ℕ) (first : Added no_shares b.interval b.left.0 part 0 w array) where
+  module _ {array : List ℕ} (first : Added no_shares b.interval b.left.0 part 0 w array) where
     -- so they are those in the part that begins at the start
     first_added : (j : ℕ) → get_or array j 0 ≡ get_or (shares 0 w left) j 0
-    first_added j =
-        first.each j
-        ∙ ap (λ (n : ℕ). n + get_or (shares 0 w (part_from b.interval b.left.0 part)) j 0) (zeros 64 j)
-        ∙ zero-add _
-        ∙ ap (λ (l : List ℕ). get_or (shares 0 w l) j 0) (sym begins.leaves)
+    first_added j = rw begins.leaves (omega (arith, first.each j, zeros 64 j))
 
     -- where there are no later ones they are all
     pub first_reads : later_of ≡ 0 → Reads array (shares_given b.repeating ls b.start.0 w)
@@ -184,7 +153,7 @@ module _ (ls : List ℕ) (b : Beginning) (w : ℕ) (begins : Begins ls b) where
         ∙ ap (λ (l : List ℕ). get_or l j 0)
         (sym (no_later (lengths_plan b.repeating ls) some b.start.0 begins.below b.repeating w (sym same_later ∙ none)))
 
-    module _ (n : ℕ) (is_later : n ≡ later_of) (more : n ≡ 0 → ⊥) where
+    module _ {n : ℕ} (is_later : n ≡ later_of) (more : n ≡ 0 → ⊥) where
       -- so many full cycles, and so many periods of the last
       abbrev full : ℕ
       full = n / b.cycle.0
@@ -233,10 +202,10 @@ module _ (ls : List ℕ) (b : Beginning) (w : ℕ) (begins : Begins ls b) where
           ∙ ap (shares_at (lengths_plan b.repeating ls)) (is_later ∙ same_later)
 
       -- so the sum are the shares at W
-      pub later_reads : (sum : List ℕ)
+      pub later_reads : {sum : List ℕ}
           → Added array 0 (get_or ls 0 0) ls full last sum
           → Reads sum (shares_given b.repeating ls b.start.0 w)
-      later_reads sum added j =
+      later_reads added j =
           let count : length (shares 0 w left) ≡ length (shares full last ls) =
           many_shares 0 w left ∙ lengths_count b.start.0 ls ∙ sym (many_shares full last ls) in
           added.each j

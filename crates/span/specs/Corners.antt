@@ -14,9 +14,11 @@ use Rattle.curve.specs.Rows.{Interval}
 use Rattle.curve.specs.Figures.{InBlock, HoldsEnvelope}
 use Rattle.curve.specs.Found.{holds_most}
 use Rattle.segments.specs.Blocks.{curve_of, no_block, curve_at, Curves}
-use Rattle.segments.specs.Places.{list_of}
+use Rattle.stall.specs.Fills.{list_of}
 use Rattle.units.specs.Given.{corner_at}
-use Rattle.units.specs.declared.Block.{Block}
+use Rattle.units.specs.Given.{no_corner as nothing}
+use Rattle.units.specs.declared.corner.Corner as declared
+use Rattle.units.specs.declared.corner.Block.{Block}
 use Rattle.number_laws.specs.Zeros.{zeros, zeros_after}
 
 -- the corner at rate 0 without stall, which stands past the end of a block
@@ -30,16 +32,16 @@ block_at ns k = zeros_after ns (replicate (9 - length ns) 0) (zeros (9 - length 
 block_curve : (c : Curve) (b : Block) → InBlock c b → curve_of b ≡ c
 unfolding no_corner
 block_curve c b holds =
-    let corner : ℕ → Corner = corner_at b.rates b.stalls in
-    let rate : (k : ℕ) → get_or b.rates k 0 ≡ get_or (rates c) k 0 =
-    λ k. ap (λ (l : List ℕ). get_or l k 0) holds.rates ∙ block_at (rates c) k in
-    let stall : (k : ℕ) → get_or b.stalls k 0 ≡ get_or (stalls c) k 0 =
-    λ k. ap (λ (l : List ℕ). get_or l k 0) holds.stalls ∙ block_at (stalls c) k in
+    let corner : ℕ → Corner = corner_at b.corners in
+    let rate : (k : ℕ) → (corner k).rate ≡ get_or (rates c) k 0 =
+    λ k. sym (get_or-map (λ (a : declared.Corner). a.rate.0) b.corners k nothing) ∙ ap (λ (l : List ℕ). get_or l k 0) holds.rates ∙ block_at (rates c) k in
+    let stall : (k : ℕ) → (corner k).stall ≡ get_or (stalls c) k 0 =
+    λ k. sym (get_or-map (λ (a : declared.Corner). a.stall.0) b.corners k nothing) ∙ ap (λ (l : List ℕ). get_or l k 0) holds.stalls ∙ block_at (stalls c) k in
     let first : corner 0 ≡ c.first = λ i. record { rate = rate 0 i; stall = stall 0 i } in
-    let rate' : (j : ℕ) → get_or b.rates (1 + j) 0 ≡ (get_or c.rest j no_corner).rate =
-    λ j. ap (λ (k : ℕ). get_or b.rates k 0) (omega arith) ∙ rate (suc j) ∙ get_or-map (λ (a : Corner). a.rate) c.rest j no_corner in
-    let stall' : (j : ℕ) → get_or b.stalls (1 + j) 0 ≡ (get_or c.rest j no_corner).stall =
-    λ j. ap (λ (k : ℕ). get_or b.stalls k 0) (omega arith) ∙ stall (suc j) ∙ get_or-map (λ (a : Corner). a.stall) c.rest j no_corner in
+    let rate' : (j : ℕ) → (corner (1 + j)).rate ≡ (get_or c.rest j no_corner).rate =
+    λ j. ap (λ (k : ℕ). (corner k).rate) (omega arith) ∙ rate (suc j) ∙ get_or-map (λ (a : Corner). a.rate) c.rest j no_corner in
+    let stall' : (j : ℕ) → (corner (1 + j)).stall ≡ (get_or c.rest j no_corner).stall =
+    λ j. ap (λ (k : ℕ). (corner k).stall) (omega arith) ∙ stall (suc j) ∙ get_or-map (λ (a : Corner). a.stall) c.rest j no_corner in
     let each : (j : ℕ) → corner (1 + j) ≡ get_or c.rest j no_corner = λ j i. record { rate = rate' j i; stall = stall' j i } in
     let long : b.count - 1 ≡ length c.rest = omega (arith, holds.count) in
     let rest : list_from 1 (b.count - 1) corner ≡ c.rest =
@@ -83,24 +85,29 @@ abbrev pub Based : Plan → ℕ → ℕ → ℕ → List ℕ → Type 0
 Based p core first n = FirstHold (λ k base. first ≤ k → base ≡ base_of p core (k - first)) 0 (first + n)
 
 -- the block of no corners
-abbrev empty_block : Block
-empty_block = record { rates = replicate 9 0; stalls = replicate 9 0; count = 0 }
+abbrev empty_block : declared.Corner → Block
+empty_block none = record { corners = replicate 9 none; count = 0 }
 
-empty_concave : Concave (curve_of empty_block)
+empty_concave : Concave (curve_of (empty_block nothing))
 unfolding list_from
 empty_concave = none_concave
 
 -- before the first interval is looked at, blocks of no corners and bases of 0 will do
-pub none_cornered : (p : Plan) (core first : ℕ) → first ≤ 64 → Cornered p core first 0 (replicate 64 empty_block)
-none_cornered p core first few =
+pub none_cornered : (p : Plan) (core first : ℕ) {none : declared.Corner}
+    → none ≡ nothing
+    → first ≤ 64
+    → Cornered p core first 0 (replicate 64 (empty_block none))
+none_cornered p core first is few =
+    let empty : Block = empty_block nothing in
+    rw is (
     record {
-      long = length-replicate {A = Block} 64 empty_block;
+      long = length-replicate {A = Block} 64 empty;
       each =
           λ k lt.
           let before : k < first = omega (arith, lt) in
-          subst (CorneredAt p core first k) (sym (get_or-replicate 64 k empty_block no_block (omega (arith, before, few))))
+          subst (CorneredAt p core first k) (sym (get_or-replicate 64 k empty no_block (omega (arith, before, few))))
           (record { held = λ from. absurd (lt_irrefl k (omega (arith, from, before))); idle = λ h. (empty_concave, zero-le) });
-    }
+    })
 
 pub none_based : (p : Plan) (core first : ℕ) → Based p core first 0 (replicate 64 0)
 none_based p core first =

@@ -1,6 +1,6 @@
 -- A plan prepared for a core: the order of the segments of its curves with the bases of its intervals, and what they give: the answered placement with its stall, and the terms.
 use Rattle.std.specs.Prelude.{◌≡◌, refl, Bool, true, false, cond, List, [], ◌++◌, ℕ, ◌+◌, ◌-◌, ◌*◌, ◌≤◌, ◌<◌, get_or, take, replicate}
-use Rattle.std.proofs.Common.{sym, ap₂, ◌∙◌, ⊎_elim, le_refl, le_trans, lt_irrefl, not-suc-le-zero, arith, length-take, get_or-take}
+use Rattle.std.proofs.Common.{sym, ap₂, ◌∙◌, ⊎_elim, le_trans, not-suc-le-zero, arith, length-take, length-take-le, get_or-take}
 use Rattle.std.proofs.Math.Path.{ap, subst}
 use Rattle.std.proofs.Math.Nat.{mul-zero, min-le_left}
 use Rattle.std.proofs.Math.ListN.{length, drop, get_or-eq_default}
@@ -20,33 +20,34 @@ use Rattle.placement_laws.specs.FillingAnswers.{walk_stall}
 use Rattle.placement_laws.specs.PlacementExists.{CurvesFrom, base_of, answered_by_order}
 use Rattle.span_laws.specs.StallAtW.{shared_few}
 use Rattle.span_laws.specs.TermsInSlots.{stall_fits, next_answered, RisingTerms, terms_rise}
-use Rattle.units.specs.Given.{plan_of}
+use Rattle.units.specs.Given.{plan_with}
 use Rattle.units.specs.declared.Head.{Head}
-use Rattle.segments.specs.Packed.{between}
+use Rattle.segments.specs.Picks.{picks_of}
+use Rattle.segments.specs.declared.segment.Segment.{Segment}
 use Rattle.order.specs.Groups.{Orders}
 use Rattle.shares.specs.Part.{part_of, Begins}
 use Rattle.shares.specs.Shares.{shares_given, Reads, none_before}
 use Rattle.shares.specs.declared.Beginning.{Beginning}
 use Rattle.stall.specs.Walks.{number_at}
-use Rattle.search.specs.Walked.{stall_with, placed_with, Gives, term_after, stall_in_array, gives_in_array, Walkable}
+use Rattle.search.specs.Walked.{stall_with, placed_with, Gives, term_after, stall_in_array, gives_in_array}
 
--- the first so many places hold the order of the segments of the curves of a part of a plan, whose first interval has this number, and the bases of its intervals, in order; those past the end of the list are 0
-pub record PreparedPart (part : Plan) (core first : ℕ) (picks : List ℕ) (count : ℕ) (bases : List ℕ) : Type 0 where
+-- these are, in order, the segments of the curves of a part of a plan, whose first interval has this number, and the bases of its intervals, in order; those past the end of the list are 0
+pub record PreparedPart (part : Plan) (core first : ℕ) (segments : List Segment) (bases : List ℕ) : Type 0 where
   pub curve : ℕ → Curve
   pub curves : (i : ℕ) → first ≤ i → i < first + intervals part → EnvelopeOf part.per_period core (get_or (rows part) (i - first) []) (curve i)
   pub idle : (i : ℕ) → i < first → Concave (curve i)
-  pub orders : Orders (first + intervals part) curve picks count
+  pub orders : Orders (first + intervals part) curve segments
   pub each : (i : ℕ) → first ≤ i → i < first + intervals part → get_or bases i 0 ≡ base_of part core (i - first)
   pub few : length bases ≤ first + intervals part
 
 -- the same for a plan from a start on: those before the first interval that can be met have no share at any W
-pub record PreparedFor (p : Plan) (core start : ℕ) (picks : List ℕ) (count : ℕ) (bases : List ℕ) : Type 0 where
+pub record PreparedFor (p : Plan) (core start : ℕ) (segments : List Segment) (bases : List ℕ) : Type 0 where
   pub first : ℕ
   pub curve : ℕ → Curve
   pub curves : CurvesFrom p core first curve
   pub idle : (i : ℕ) → i < first → Concave (curve i)
   pub dropped : (w i : ℕ) → i < first → get_or (shares_from p start w) i 0 ≡ 0
-  pub orders : Orders (intervals p) curve picks count
+  pub orders : Orders (intervals p) curve segments
   pub each : (i : ℕ) → first ≤ i → i < intervals p → get_or bases i 0 ≡ base_of p core i
   pub few : length bases ≤ intervals p
 
@@ -63,22 +64,28 @@ pub record ParkedUntil (n : ℕ) (bases : List ℕ) (r : ℕ) : Type 0 where
 abbrev pub LastParked : List ℕ → ℕ → Type 0
 LastParked bases r = 0 < r → get_or bases (r - 1) 0 ≡ 0 → ⊥
 
--- none is past all of them
-pub until_all : {n : ℕ} {bases : List ℕ} → ParkedUntil n bases n
-until_all {n} = record { few = le_refl n; past = λ k from to. absurd (lt_irrefl k (omega (arith, from, to))) }
-
--- where the last of the first r is 0 too, one fewer will do
-pub until_less : {n r : ℕ} {bases : List ℕ} → 0 < r → get_or bases (r - 1) 0 ≡ 0 → ParkedUntil n bases r → ParkedUntil n bases (r - 1)
-until_less {n} {r} {bases} some none until =
+-- what the bases of the first n intervals say is said of all
+pub until_front : (n r : ℕ) (bases : List ℕ) → n ≤ length bases → ParkedUntil (length (take n bases)) (take n bases) r → ParkedUntil n bases r
+until_front n r bases long until =
+    let same = length-take-le n bases long in
     record {
-      few = omega (arith, until.few);
-      past =
-          λ k from to.
-          ⊎_elim
-          (λ beyond. until.past k beyond to)
-          (λ before. subst (λ (j : ℕ). get_or bases j 0 ≡ 0) (omega (arith, from, before)) none)
-          (le_or_lt r k);
+      few = omega (arith, until.few, same);
+      past = λ k from to. sym (get_or-take n bases k 0 to) ∙ until.past k from (omega (arith, to, same));
     }
+
+-- and the last of the first r is not 0
+pub last_front : (n r : ℕ) (bases : List ℕ)
+    → n ≤ length bases
+    → r ≤ n
+    → LastParked (take n bases) r
+    → LastParked (take r bases) (length (take r bases))
+last_front n r bases long few parked =
+    let same : length (take r bases) ≡ r = length-take-le r bases (omega (arith, long, few)) in
+    subst (LastParked (take r bases)) (sym same)
+    (λ some none.
+    let before : r - 1 < r = omega (arith, some) in
+    parked some
+    (get_or-take n bases (r - 1) 0 (omega (arith, some, few)) ∙ sym (get_or-take r bases (r - 1) 0 before) ∙ none))
 
 -- so the first r read as all of them
 pub until_reads : (n r : ℕ) (bases : List ℕ) → ParkedUntil n bases r → (i : ℕ) → i < n → get_or (take r bases) i 0 ≡ get_or bases i 0
@@ -87,14 +94,6 @@ until_reads n r bases until i inside =
     (λ past. get_or-eq_default (take r bases) 0 (le_trans (rw length-take (min-le_left r (length bases))) past) ∙ sym (until.past i past inside))
     (λ before. get_or-take r bases i 0 before)
     (le_or_lt r i)
-
--- a part of an array from place 0 on is its front
-pub prepared_front : (p : Plan) (core start : ℕ) (picks : List ℕ) (count : ℕ) (bases : List ℕ) (r : ℕ)
-    → PreparedFor p core start picks count (take r bases)
-    → PreparedFor p core start picks count (take (r - 0) bases)
-prepared_front p core start picks count bases r =
-    let same : r ≡ r - 0 = omega arith in
-    subst (λ (n : ℕ). PreparedFor p core start picks count (take n bases)) same
 
 -- the shares from a beginning with the plan's mark and a start are those from this start
 pub given_shares : (p : Plan) (b : Beginning) (start : ℕ)
@@ -105,9 +104,9 @@ given_shares p b start mark same = ap₂ (λ (r : Bool) (s : ℕ). shares_given 
 
 -- lengths and budgets handed on from their middle are those of the part from there on
 pub handed_on : (head : Head) (ls bs : List ℕ) (first : ℕ)
-    → plan_of head (take (length ls - first) (drop first ls)) (take (length bs - first * head.cores) (drop (first * head.cores) bs))
-    ≡ part_plan first (plan_of head ls bs)
-handed_on head ls bs first = ap₂ (plan_of head) (from_middle first ls) (from_middle (first * head.cores) bs)
+    → plan_with head (take (length ls - first) (drop first ls)) (take (length bs - first * head.cores) (drop (first * head.cores) bs))
+    ≡ part_plan first (plan_with head ls bs)
+handed_on head ls bs first = ap₂ (plan_with head) (from_middle first ls) (from_middle (first * head.cores) bs)
 
 -- of an interval before the part that begins at the start nothing is left, so it has no share there
 none_left : (cycles w n : ℕ) (ls : List ℕ) (i : ℕ) → i < n → get_or (shares cycles w (replicate n 0 ++ ls)) i 0 ≡ 0
@@ -137,10 +136,10 @@ module _ (p : Plan) (b : Beginning) (begins : Begins p.lengths b) where
   met_inside = first_inside p.repeating p b begins
 
   -- what is prepared for the part from there on is prepared for the plan
-  pub part_prepared : (core : ℕ) (picks : List ℕ) (count : ℕ) (bases : List ℕ)
-      → PreparedPart (part_plan (first_met p.repeating b.interval) p) core (first_met p.repeating b.interval) picks count bases
-      → PreparedFor p core b.start.0 picks count bases
-  part_prepared core picks count bases o =
+  pub part_prepared : (core : ℕ) (segments : List Segment) (bases : List ℕ)
+      → PreparedPart (part_plan (first_met p.repeating b.interval) p) core (first_met p.repeating b.interval) segments bases
+      → PreparedFor p core b.start.0 segments bases
+  part_prepared core segments bases o =
       let first = first_met p.repeating b.interval in
       let all : first + intervals (part_plan first p) ≡ intervals p = part_intervals first p (omega (arith, met_inside)) in
       record {
@@ -152,7 +151,7 @@ module _ (p : Plan) (b : Beginning) (begins : Begins p.lengths b) where
             (o.curves i from (subst (λ (n : ℕ). i < n) (sym all) inside));
         idle = o.idle;
         dropped = none_met p.repeating p b refl begins;
-        orders = subst (λ (n : ℕ). Orders n o.curve picks count) all o.orders;
+        orders = subst (λ (n : ℕ). Orders n o.curve segments) all o.orders;
         each =
             λ i from inside.
             o.each i from (subst (λ (n : ℕ). i < n) (sym all) inside)
@@ -160,18 +159,13 @@ module _ (p : Plan) (b : Beginning) (begins : Begins p.lengths b) where
         few = subst (λ (n : ℕ). length bases ≤ n) all o.few;
       }
 
-module _ (p : Plan) (start : ℕ) (sound : SoundFrom p start) (picks : List ℕ) (count : ℕ) (bases : List ℕ) where
-  -- what is prepared can be walked and summed
-  pub prepared_walkable : (core : ℕ) → PreparedFor p core start picks count bases → Walkable picks count bases
-  prepared_walkable core o =
-      record { fits = o.orders.fits; runs = o.orders.runs; few = le_trans o.few sound.plan.few_intervals }
-
-  module _ (core : ℕ) (o : PreparedFor p core start picks count bases) (requests n : ℕ) where
+module _ (p : Plan) (start : ℕ) (sound : SoundFrom p start) (segments : List Segment) (bases : List ℕ) where
+  module _ (core : ℕ) (o : PreparedFor p core start segments bases) (requests n : ℕ) where
     -- the answered placement at W and its stall
     pub prepared_answered :
         AnsweredAt p core requests start n
-        (placed_with (intervals p) (shares_from p start n) (between 0 count picks) requests)
-        (stall_with bases (shares_from p start n) (between 0 count picks) requests)
+        (placed_with (intervals p) (shares_from p start n) (picks_of segments) requests)
+        (stall_with bases (shares_from p start n) (picks_of segments) requests)
     unfolding stall_with placed_with
     prepared_answered =
         let ws = shares_from p start n in
@@ -179,9 +173,9 @@ module _ (p : Plan) (start : ℕ) (sound : SoundFrom p start) (picks : List ℕ)
         sum_short 0 (length bases) (intervals p) (λ i. number_at ws i * number_at bases i) o.few
         (λ i past. ap (λ (m : ℕ). number_at ws i * m) (get_or-eq_default bases 0 (omega (arith, past))) ∙ mul-zero (number_at ws i)) in
         subst
-        (λ (stall : ℕ). AnsweredAt p core requests start n (placed_with (intervals p) ws (between 0 count picks) requests) (round_up (walk_stall (raised stall (walk (number_at ws) (between 0 count picks) requests)))))
+        (λ (stall : ℕ). AnsweredAt p core requests start n (placed_with (intervals p) ws (picks_of segments) requests) (round_up (walk_stall (raised stall (walk (number_at ws) (picks_of segments) requests)))))
         (sym all)
-        (answered_by_order p core sound.plan o.first o.curve o.curves o.idle (between 0 count picks) o.orders.order ws
+        (answered_by_order p core sound.plan o.first o.curve o.curves o.idle (picks_of segments) o.orders.order ws
         (plan_many p start n)
         requests
         (number_at ws)
@@ -193,15 +187,15 @@ module _ (p : Plan) (start : ℕ) (sound : SoundFrom p start) (picks : List ℕ)
     -- so what the order gives is answered, and the placement, which has a number for each interval, is written from the front
     pub prepared_gives : (array place : List ℕ) (answer : ℕ) (after : List ℕ)
         → Reads array (shares_from p start n)
-        → Gives (intervals p) bases array (between 0 count picks) requests place answer after
-        → AnsweredAt p core requests start n (placed_with (intervals p) (shares_from p start n) (between 0 count picks) requests) answer
-        × (after ≡ written (placed_with (intervals p) (shares_from p start n) (between 0 count picks) requests) place)
+        → Gives (intervals p) bases array (picks_of segments) requests place answer after
+        → AnsweredAt p core requests start n (placed_with (intervals p) (shares_from p start n) (picks_of segments) requests) answer
+        × (after ≡ written (placed_with (intervals p) (shares_from p start n) (picks_of segments) requests) place)
     unfolding placed_with
     prepared_gives array place answer after made gives =
         let ws = shares_from p start n in
-        let g = gives_in_array bases ws (between 0 count picks) requests array made (intervals p) place answer after gives in
-        let xs = placed_with (intervals p) ws (between 0 count picks) requests in
-        let long : length xs ≡ intervals p = list_length 0 (intervals p) (fill (number_at ws) (between 0 count picks) requests (λ j. 0)) in (
+        let g = gives_in_array bases ws (picks_of segments) requests array made (intervals p) place answer after gives in
+        let xs = placed_with (intervals p) ws (picks_of segments) requests in
+        let long : length xs ≡ intervals p = list_length 0 (intervals p) (fill (number_at ws) (picks_of segments) requests (λ j. 0)) in (
           subst (AnsweredAt p core requests start n xs) (sym g.stall) prepared_answered,
           g.placed ∙ ap (λ (k : ℕ). xs ++ drop k place) (sym long),
         )
@@ -210,21 +204,21 @@ module _ (p : Plan) (start : ℕ) (sound : SoundFrom p start) (picks : List ℕ)
     pub prepared_fits : (array : List ℕ)
         → Reads array (shares_from p start n)
         → n ≤ most_span p start
-        → stall_with bases array (between 0 count picks) requests ≤ most_work
+        → stall_with bases array (picks_of segments) requests ≤ most_work
     prepared_fits array made inside =
         let ws = shares_from p start n in
-        subst (λ (m : ℕ). m ≤ most_work) (sym (stall_in_array bases ws (between 0 count picks) requests array made))
+        subst (λ (m : ℕ). m ≤ most_work) (sym (stall_in_array bases ws (picks_of segments) requests array made))
         (stall_fits p core requests ws _ _ sound.plan (shared_few p start n sound inside) prepared_answered)
 
-module _ (p : Plan) (w : Workload) (sound : SoundFrom p w.start) (picks : List ℕ) (count : ℕ) (bases : List ℕ)
-    (o : PreparedFor p w.core w.start picks count bases) where
+module _ (p : Plan) (w : Workload) (sound : SoundFrom p w.start) (segments : List Segment) (bases : List ℕ)
+    (o : PreparedFor p w.core w.start segments bases) where
   -- the term after t
   abbrev next_term : ℕ → ℕ
-  next_term = term_after p.per_period bases (shares_from p w.start) (between 0 count picks) w
+  next_term = term_after p.per_period bases (shares_from p w.start) (picks_of segments) w
 
   -- the terms of a workload
   pub prepared_terms : (t : ℕ) → NextTerm p w t (next_term t)
-  prepared_terms t = next_answered p w t _ _ sound (prepared_answered p w.start sound picks count bases w.core o w.requests t)
+  prepared_terms t = next_answered p w t _ _ sound (prepared_answered p w.start sound segments bases w.core o w.requests t)
 
   -- they rise
   pub prepared_rises : RisingTerms next_term (first_term p w)

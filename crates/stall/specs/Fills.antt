@@ -1,17 +1,15 @@
 -- Laws on filling: what the walk places in each interval.
 use Rattle.std.specs.Prelude.{◌≡◌, refl, cond, ℕ, suc, ◌+◌, ◌-◌, ◌*◌, ◌≤◌, ◌<◌, length, get_or, take, drop, set, replicate, eqb}
-use Rattle.std.proofs.Common.{sym, ◌∙◌, ⊎_elim, zero-add, lt_of_lt_of_le, arith, length-append, length-set, take-append-drop, length-take-le, drop_at, get_or-take, get_or-set_same, get_or-set_other, drop-set-lt}
+use Rattle.std.proofs.Common.{sym, le_refl, ap₂, suc-le-suc, add-zero, add-suc, suc-add, ◌∙◌, ⊎_elim, zero-add, lt_of_lt_of_le, arith, length-append, length-set, take-append-drop, length-take-le, drop_at, get_or-take, get_or-set_same, get_or-set_other, drop-set-lt}
 use Rattle.std.proofs.Math.Path.{ap}
 use mathlib.Core.List.{List, [], ◌∷◌, ◌++◌}
-use Rattle.std.proofs.Math.Numerals.{add-one}
 use Rattle.std.proofs.lemmas.List.{length-replicate, get_or-replicate}
 use Rattle.std.proofs.Math.ListN.{get_or-append}
 use borrow.Author.Tests.{le-leb, lt-leb, eq-eqb, ne_eqb}
 use Rattle.number_laws.specs.Order.{le_or_lt, eq_or_ne}
 use Rattle.number_laws.specs.Lists.{list_from}
 use Rattle.placement_laws.specs.Filling.{Pick, more, fill}
-use Rattle.segments.specs.Packed.{pick_of, between}
-use Rattle.segments.specs.Places.{list_of, between_none, between_first}
+use Rattle.segments.specs.Picks.{Inside}
 
 -- what is filled in an interval goes by what is placed there alone
 fill_at : (share : ℕ → ℕ) (o : List Pick) (requests : ℕ) (x y : ℕ → ℕ) (j : ℕ)
@@ -40,6 +38,17 @@ more_stored l i c j inside =
     (λ other. rw (ne_eqb j i other) (sym (get_or-set_other l i j (get_or l i 0 + c) 0 other)))
     (eq_or_ne j i)
 
+-- a list by what stands at each of its places
+pub list_of : {A : Type 0} (d : A) (l : List A) (i : ℕ) (f : ℕ → A)
+    → ((k : ℕ) → k < length l → f (i + k) ≡ get_or l k d)
+    → list_from i (length l) f ≡ l
+unfolding list_from
+list_of d [] i f at = refl
+list_of {A} d (x ∷ xs) i f at =
+    ap₂ {A = A} {B = List A} {C = List A} ◌∷◌
+    (ap f (sym (add-zero i)) ∙ at 0 (omega arith))
+    (list_of d xs (suc i) f (λ k h. ap f (suc-add i k ∙ sym (add-suc i k)) ∙ at (suc k) (suc-le-suc h)))
+
 -- a list by what stands at each of its first n places
 listed_first : (l : List ℕ) (n : ℕ) (f : ℕ → ℕ) → n ≤ length l → ((j : ℕ) → j < n → f j ≡ get_or l j 0) → l ≡ list_from 0 n f ++ drop n l
 listed_first l n f fits at =
@@ -56,45 +65,53 @@ listed_first l n f fits at =
 pub after_zeros : (n : ℕ) (rest l : List ℕ) → l ≡ replicate n 0 ++ rest → drop n l ≡ rest
 after_zeros n rest l zeros = ap (drop n) zeros ∙ drop_at (replicate n 0) rest n (length-replicate n 0)
 
--- where a filling stands: what the first k segments placed, and the requests that are left
-pub record Filling (share : ℕ → ℕ) (picks : List ℕ) (count requests n : ℕ) (before after : List ℕ) (left k : ℕ) : Type 0 where
-  pub inside : k ≤ count
+-- where a filling for n intervals stands: what is placed, the requests that are left, and the segments to do
+pub record Filling (share : ℕ → ℕ) (o : List Pick) (requests n : ℕ) (before after : List ℕ) (left : ℕ) (todo : List Pick) : Type 0 where
   pub fits : n ≤ length after
   pub kept : drop n after ≡ drop n before
+  pub inside : Inside n todo
+  pub low : requests ≤ 4_294_967_295
+  pub most : left ≤ requests
   pub room : (j : ℕ) → j < n → get_or after j 0 + left ≤ requests
-  pub rest :
-      (j : ℕ)
-      → j < n
-      → fill share (between 0 count picks) requests (λ i. 0) j
-      ≡ fill share (between k count picks) left (λ i. get_or after i 0) j
+  pub rest : (j : ℕ) → j < n → fill share o requests (λ i. 0) j ≡ fill share todo left (λ i. get_or after i 0) j
 
 -- nothing is placed yet
-pub filling_none : {share : ℕ → ℕ} {picks : List ℕ} {count requests n : ℕ} {after : List ℕ} (before : List ℕ)
-    → after ≡ replicate n 0 ++ before
-    → Filling share picks count requests n after after requests 0
-filling_none {share} {picks} {count} {requests} {n} {after} before zeros =
+pub filling_none : {share : ℕ → ℕ} (o : List Pick) {requests n : ℕ} {after : List ℕ} (before : List ℕ)
+    → Inside n o
+    → requests ≤ 4_294_967_295
+    → n ≤ length before
+    → after ≡ replicate n 0 ++ drop n before
+    → Filling share o requests n before after requests o
+filling_none {share} o {requests} {n} {after} before inside low long zeros =
     let nothing : List ℕ = replicate n 0 in
-    let long : length nothing ≡ n = length-replicate n 0 in
+    let count : length nothing ≡ n = length-replicate n 0 in
     let at : (j : ℕ) → j < n → get_or after j 0 ≡ 0 =
     λ j h.
     ap (λ (l : List ℕ). get_or l j 0) zeros
-    ∙ get_or-append nothing before 0 j (omega (arith, h, long))
+    ∙ get_or-append nothing (drop n before) 0 j (omega (arith, h, count))
     ∙ get_or-replicate n j 0 0 h in
     record {
-      inside = omega arith;
-      fits = omega (arith, ap length zeros, length-append nothing before, long);
-      kept = refl;
+      fits = omega (arith, ap length zeros, length-append nothing (drop n before), count);
+      kept = after_zeros n (drop n before) after zeros;
+      inside = inside;
+      low = low;
+      most = le_refl requests;
       room = λ j h. omega (arith, at j h);
-      rest = λ j h. fill_at share (between 0 count picks) requests (λ i. 0) (λ i. get_or after i 0) j (sym (at j h));
+      rest = λ j h. fill_at share o requests (λ i. 0) (λ i. get_or after i 0) j (sym (at j h));
     }
 
-module _ {share : ℕ → ℕ} {picks : List ℕ} {count requests n : ℕ} {before after : List ℕ} {left k : ℕ}
-    (now : Filling share picks count requests n before after left k) where
-  -- the next segment
-  abbrev next : Pick
-  next = pick_of (get_or picks k 0)
+-- all segments are filled
+pub filling_all : {share : ℕ → ℕ} {o : List Pick} {requests n : ℕ} {before after : List ℕ} {left : ℕ}
+    → Filling share o requests n before after left []
+    → after ≡ list_from 0 n (fill share o requests (λ i. 0)) ++ drop n before
+unfolding fill
+filling_all {share} {o} {requests} {n} {before} {after} now =
+    listed_first after n (fill share o requests (λ i. 0)) now.fits now.rest
+    ∙ ap (λ (l : List ℕ). list_from 0 n (fill share o requests (λ i. 0)) ++ l) now.kept
 
-  -- the requests that it has room for
+module _ {share : ℕ → ℕ} {o : List Pick} {requests n : ℕ} {before after : List ℕ} {left : ℕ} {next : Pick} {later : List Pick}
+    (now : Filling share o requests n before after left (next ∷ later)) where
+  -- the requests that the next segment has room for
   abbrev cap : ℕ
   cap = share next.interval * next.run
 
@@ -102,63 +119,54 @@ module _ {share : ℕ → ℕ} {picks : List ℕ} {count requests n : ℕ} {befo
   abbrev stored : ℕ → List ℕ
   stored c = set after next.interval (get_or after next.interval 0 + c)
 
-  -- what stands past the intervals is kept
-  kept_stored : (c : ℕ) → next.interval < n → drop n (stored c) ≡ drop n before
-  kept_stored c inside = drop-set-lt n after next.interval (get_or after next.interval 0 + c) inside ∙ now.kept
-
-  -- the intervals have their places
-  long_stored : (c : ℕ) → n ≤ length (stored c)
-  long_stored c = omega (arith, now.fits, length-set after next.interval (get_or after next.interval 0 + c))
+  -- there is room for so many of those that are left
+  pub filling_fits : (c : ℕ) → c ≤ left → (next.interval < length after) × (get_or after next.interval 0 + c ≤ 4_294_967_295)
+  filling_fits c most =
+      let here = now.inside.0 in
+      (lt_of_lt_of_le here now.fits, omega (arith, now.room next.interval here, now.low))
 
   -- no interval gets more than all requests
-  room_stored : (c : ℕ) → next.interval < n → c ≤ left → (j : ℕ) → j < n → get_or (stored c) j 0 + (left - c) ≤ requests
-  room_stored c inside most j h =
+  room_stored : (c : ℕ) → c ≤ left → (j : ℕ) → j < n → get_or (stored c) j 0 + (left - c) ≤ requests
+  room_stored c most j h =
       ⊎_elim
       (λ e.
-      let same = get_or-set_same after next.interval (get_or after next.interval 0 + c) 0 (lt_of_lt_of_le inside now.fits) in
-      omega (arith, ap (λ (i : ℕ). get_or (stored c) i 0) e, same, now.room next.interval inside, most))
+      let same = get_or-set_same after next.interval (get_or after next.interval 0 + c) 0 (lt_of_lt_of_le now.inside.0 now.fits) in
+      omega (arith, ap (λ (i : ℕ). get_or (stored c) i 0) e, same, now.room next.interval now.inside.0, most))
       (λ other.
       omega (arith, get_or-set_other after next.interval j (get_or after next.interval 0 + c) 0 other, now.room j h))
       (eq_or_ne j next.interval)
 
+  -- what stands past the intervals is kept, and they have their places
+  kept_stored : (c : ℕ) → (drop n (stored c) ≡ drop n before) × (n ≤ length (stored c))
+  kept_stored c = (
+    drop-set-lt n after next.interval (get_or after next.interval 0 + c) now.inside.0 ∙ now.kept,
+    omega (arith, now.fits, length-set after next.interval (get_or after next.interval 0 + c)),
+  )
+
   -- the next segment is filled whole
-  pub filling_more : k < count
-      → next.interval < n
-      → cap < left
-      → Filling share picks count requests n before (stored cap) (left - cap) (k + 1)
+  pub filling_more : cap < left → Filling share o requests n before (stored cap) (left - cap) later
   unfolding fill
-  filling_more some inside enough =
+  filling_more enough =
       record {
-        inside = omega (arith, some);
-        fits = long_stored cap;
-        kept = kept_stored cap inside;
-        room = room_stored cap inside (omega (arith, enough));
+        fits = (kept_stored cap).1;
+        kept = (kept_stored cap).0;
+        inside = now.inside.1;
+        low = now.low;
+        most = omega (arith, now.most);
+        room = room_stored cap (omega (arith, enough));
         rest =
             λ j h.
-            now.rest j h
-            ∙ rw (between_first k count picks some, add-one k, lt-leb left cap enough)
-            (fill_at share (between (suc k) count picks) (left - cap) _ _ j
-            (more_stored after next.interval cap j (lt_of_lt_of_le inside now.fits)));
+            rw (lt-leb left cap enough) at (now.rest j h)
+            ∙ fill_at share later (left - cap) _ _ j
+            (more_stored after next.interval cap j (lt_of_lt_of_le now.inside.0 now.fits));
       }
 
   -- the requests run out in the next segment
-  pub filling_stop : k < count
-      → next.interval < n
-      → left ≤ cap
-      → stored left ≡ list_from 0 n (fill share (between 0 count picks) requests (λ i. 0)) ++ drop n before
+  pub filling_stop : left ≤ cap → stored left ≡ list_from 0 n (fill share o requests (λ i. 0)) ++ drop n before
   unfolding fill
-  filling_stop some inside few =
-      listed_first (stored left) n (fill share (between 0 count picks) requests (λ i. 0)) (long_stored left)
+  filling_stop few =
+      listed_first (stored left) n (fill share o requests (λ i. 0)) (kept_stored left).1
       (λ j h.
-      now.rest j h
-      ∙ rw (between_first k count picks some, le-leb left cap few)
-      (more_stored after next.interval left j (lt_of_lt_of_le inside now.fits)))
-      ∙ ap (λ (l : List ℕ). list_from 0 n (fill share (between 0 count picks) requests (λ i. 0)) ++ l) (kept_stored left inside)
-
-  -- all segments are filled
-  pub filling_all : count ≤ k → after ≡ list_from 0 n (fill share (between 0 count picks) requests (λ i. 0)) ++ drop n before
-  unfolding fill
-  filling_all done =
-      listed_first after n (fill share (between 0 count picks) requests (λ i. 0)) now.fits
-      (λ j h. now.rest j h ∙ rw (between_none k count picks done))
-      ∙ ap (λ (l : List ℕ). list_from 0 n (fill share (between 0 count picks) requests (λ i. 0)) ++ l) now.kept
+      rw (le-leb left cap few) at (now.rest j h)
+      ∙ more_stored after next.interval left j (lt_of_lt_of_le now.inside.0 now.fits))
+      ∙ ap (λ (l : List ℕ). list_from 0 n (fill share o requests (λ i. 0)) ++ l) (kept_stored left).0

@@ -1,38 +1,22 @@
 -- Laws on walking the order: the stall of the bases, the whole stall of the segments filled, and the part of the segment where the requests run out.
-use Rattle.std.specs.Prelude.{◌≡◌, List, get_or}
+use Rattle.std.specs.Prelude.{◌≡◌, List, [], ◌∷◌, get_or}
 use Rattle.std.proofs.Math.Path.{sym, ap}
-use Rattle.std.proofs.Common.{◌∙◌, subst, ⊎_elim, le_refl, zero-add, lt_irrefl, mul-le-mul_right, div-lt_iff_lt-mul, eq-or-lt_of_le, add_assoc, le_of_suc-le-suc}
-use Prim.Native.Nat.{ℕ, zero, suc, ◌+◌, ◌-◌, ◌*◌, ◌/◌, ◌≤◌, ◌<◌, zero-le}
+use Rattle.std.proofs.Common.{◌∙◌, subst, le_refl, zero-add, mul-le-mul_right, div-lt_iff_lt-mul, add_assoc, le_of_suc-le-suc}
+use Prim.Native.Nat.{ℕ, suc, ◌+◌, ◌-◌, ◌*◌, ◌/◌, ◌≤◌, ◌<◌, zero-le}
 use Rattle.std.proofs.Math.Nat.{mul-le-mul, mul-add-div_right, div-one}
 use Rattle.std.proofs.Math.Numerals.{add-one}
 use native.Mathlib.Omega.{arith}
 use borrow.Author.Tests.{le-leb, lt-leb}
 use Rattle.meaning.specs.Fraction.{round_up}
 use Rattle.meaning.specs.Plan.{most_intervals, most_work}
-use Rattle.number_laws.specs.Lists.{list_from, sum_from}
+use Rattle.number_laws.specs.Lists.{sum_from}
 use Rattle.placement_laws.specs.Filling.{base_stall, Pick, Walk, walk, raised}
 use Rattle.placement_laws.specs.FillingAnswers.{walk_stall, filled_stall}
-use Rattle.segments.specs.Packed.{pick_of, between, Every}
-use Rattle.segments.specs.Places.{between_none, between_first}
+use Rattle.segments.specs.Picks.{Runs}
 
 -- the number of an interval, counted from 0: its share among the shares, its base among the bases
 abbrev pub number_at : List ℕ → ℕ → ℕ
 number_at numbers i = get_or numbers i 0
-
--- what holds of every segment of a list holds of each
-every_from : (P : Pick → Type 0) (f : ℕ → Pick) (i n k : ℕ) → Every P (list_from i n f) → i ≤ k → k < i + n → P (f k)
-unfolding list_from
-every_from P f i zero k all from to = absurd (lt_irrefl k (omega arith))
-every_from P f i (suc n) k all from to =
-    ⊎_elim
-    (λ e. subst (λ (j : ℕ). P (f j)) e all.0)
-    (λ lt. every_from P f (suc i) n k all.1 lt (omega arith))
-    (eq-or-lt_of_le from)
-
--- what holds of every segment holds of that in a place
-pub every_at : (P : Pick → Type 0) (picks : List ℕ) (count k : ℕ) → Every P (between 0 count picks) → k < count → P (pick_of (get_or picks k 0))
-every_at P picks count k all inside =
-    every_from P (λ j. pick_of (get_or picks j 0)) 0 (count - 0) k all (omega arith) (omega arith)
 
 -- the stall of a part of a segment, rounded up, is at most that of the whole segment
 pub part_fits : (share requests rise run : ℕ)
@@ -88,90 +72,77 @@ module _ {share base : ℕ → ℕ} {n stall i : ℕ} (now : Summed share base n
       let none : n - i ≡ 0 = omega (arith, done) in
       omega (arith, now.rest, ap (λ (m : ℕ). sum_from i m (λ j. share j * base j)) none)
 
--- where a walk for n intervals stands: the whole stall of the bases and the first k segments, and the requests that are left
-pub record Walked (share base : ℕ → ℕ) (n : ℕ) (picks : List ℕ) (count requests whole left k : ℕ) : Type 0 where
-  pub inside : k ≤ count
+-- where a walk for n intervals stands: the whole stall of the bases and the first k segments, the requests that are left, and the segments to do
+pub record Walked (share base : ℕ → ℕ) (n : ℕ) (o : List Pick) (requests whole left k : ℕ) (todo : List Pick) : Type 0 where
   pub bound : whole ≤ most_intervals * most_work + k * 281_470_681_677_825
+  pub low : requests ≤ 4_294_967_295
   pub fits : left ≤ requests
-  pub rest :
-      raised (base_stall n share base) (walk share (between 0 count picks) requests)
-      ≡ raised whole (walk share (between k count picks) left)
+  pub runs : Runs todo
+  pub rest : raised (base_stall n share base) (walk share o requests) ≡ raised whole (walk share todo left)
 
 -- no segment is filled yet
-pub walked_none : {share base : ℕ → ℕ} {n : ℕ} {picks : List ℕ} {count requests whole : ℕ}
+pub walked_none : {share base : ℕ → ℕ} {n : ℕ} (o : List Pick) {requests whole : ℕ}
+    → Runs o
+    → requests ≤ 4_294_967_295
     → whole ≡ base_stall n share base
     → whole ≤ most_intervals * most_work
-    → Walked share base n picks count requests whole requests 0
-walked_none {share} {base} {n} {picks} {count} {requests} {whole} e few =
+    → Walked share base n o requests whole requests 0 o
+walked_none {share} {base} {n} o {requests} {whole} runs low e few =
     record {
-      inside = zero-le;
       bound = omega (arith, few);
+      low = low;
       fits = le_refl requests;
-      rest = ap (λ (m : ℕ). raised m (walk share (between 0 count picks) requests)) (sym e);
+      runs = runs;
+      rest = ap (λ (m : ℕ). raised m (walk share o requests)) (sym e);
     }
 
-module _ {share base : ℕ → ℕ} {n : ℕ} {picks : List ℕ} {count requests whole left k : ℕ}
-    (now : Walked share base n picks count requests whole left k) where
-  -- the next segment
-  abbrev next : Pick
-  next = pick_of (get_or picks k 0)
+-- the requests run out in the next segment
+pub walked_stop : {share base : ℕ → ℕ} {n : ℕ} {o : List Pick} {requests whole left k : ℕ} {next : Pick} {later : List Pick}
+    → Walked share base n o requests whole left k (next ∷ later)
+    → left ≤ share next.interval * next.run
+    → round_up (filled_stall n share base o requests) ≡ whole + round_up (record { num = left * next.rise; den = next.run })
+unfolding walk round_up
+walked_stop {share} {whole = whole} {left = left} {next = next} now fits =
+    let stop : Walk = record { whole = 0; left = left; rise = next.rise; run = next.run } in
+    let step = rw (le-leb left (share next.interval * next.run) fits) at now.rest in
+    let sum :
+    (whole + 0) * next.run + left * next.rise + (next.run - 1)
+    ≡ whole * next.run + (left * next.rise + (next.run - 1)) = omega arith in
+    ap (λ (w : Walk). round_up (walk_stall w)) step
+    ∙ ap (λ (n : ℕ). n / next.run) sum
+    ∙ mul-add-div_right now.runs.0 whole (left * next.rise + (next.run - 1))
 
-  -- the share of its interval
-  abbrev weight : ℕ
-  weight = share next.interval
+-- the next segment is filled whole
+pub walked_more : {share base : ℕ → ℕ} {n : ℕ} {o : List Pick} {requests whole left k : ℕ} {next : Pick} {later : List Pick}
+    → Walked share base n o requests whole left k (next ∷ later)
+    → share next.interval * next.rise ≤ 281_470_681_677_825
+    → share next.interval * next.run < left
+    → Walked share base n o requests (whole + share next.interval * next.rise) (left - share next.interval * next.run) (k + 1) later
+unfolding walk
+walked_more {share} {whole = whole} {left = left} {next = next} {later = later} now most enough =
+    let weight = share next.interval in
+    let after = walk share later (left - weight * next.run) in
+    record {
+      bound = omega (arith, now.bound, most);
+      low = now.low;
+      fits = omega (arith, now.fits);
+      runs = now.runs.1;
+      rest =
+          rw (lt-leb left (weight * next.run) enough) at now.rest
+          ∙ (λ i.
+          record {
+            whole = sym (add_assoc whole (weight * next.rise) after.whole) i;
+            left = after.left;
+            rise = after.rise;
+            run = after.run;
+          });
+    }
 
-  -- the next segment is filled whole
-  pub walked_more : k < count
-      → weight ≤ 65_535
-      → next.rise ≤ 4_294_967_295
-      → weight * next.run < left
-      → Walked share base n picks count requests (whole + weight * next.rise) (left - weight * next.run) (k + 1)
-  unfolding walk
-  walked_more some low small enough =
-      let later = walk share (between (k + 1) count picks) (left - weight * next.run) in
-      let step : walk share (between k count picks) left ≡ raised (weight * next.rise) later =
-      rw (between_first k count picks some, add-one k, lt-leb left (weight * next.run) enough) in
-      record {
-        inside = omega (arith, some);
-        bound = omega (arith, now.bound, mul-le-mul low small);
-        fits = omega (arith, now.fits);
-        rest =
-            now.rest
-            ∙ ap (raised whole) step
-            ∙ (λ i.
-            record {
-              whole = sym (add_assoc whole (weight * next.rise) later.whole) i;
-              left = later.left;
-              rise = later.rise;
-              run = later.run;
-            });
-      }
-
-  -- the requests run out in the next segment
-  pub walked_stop : k < count
-      → 1 ≤ next.run
-      → left ≤ weight * next.run
-      → round_up (filled_stall n share base (between 0 count picks) requests)
-      ≡ whole + round_up (record { num = left * next.rise; den = next.run })
-  unfolding walk round_up
-  walked_stop some positive fits =
-      let stop : Walk = record { whole = 0; left = left; rise = next.rise; run = next.run } in
-      let step : walk share (between k count picks) left ≡ stop =
-      rw (between_first k count picks some, le-leb left (weight * next.run) fits) in
-      let sum :
-      (whole + 0) * next.run + left * next.rise + (next.run - 1)
-      ≡ whole * next.run + (left * next.rise + (next.run - 1)) = omega arith in
-      ap (λ (w : Walk). round_up (walk_stall w)) (now.rest ∙ ap (raised whole) step)
-      ∙ ap (λ (n : ℕ). n / next.run) sum
-      ∙ mul-add-div_right positive whole (left * next.rise + (next.run - 1))
-
-  -- all segments are filled
-  pub walked_all : count ≤ k → round_up (filled_stall n share base (between 0 count picks) requests) ≡ whole
-  unfolding walk round_up
-  walked_all done =
-      let stop : Walk = record { whole = 0; left = left; rise = 0; run = 1 } in
-      let step : walk share (between k count picks) left ≡ stop = rw (between_none k count picks done) in
-      let sum : (whole + 0) * 1 + left * 0 + (1 - 1) ≡ whole = omega arith in
-      ap (λ (w : Walk). round_up (walk_stall w)) (now.rest ∙ ap (raised whole) step)
-      ∙ ap (λ (n : ℕ). n / 1) sum
-      ∙ div-one whole
+-- all segments are filled
+pub walked_all : {share base : ℕ → ℕ} {n : ℕ} {o : List Pick} {requests whole left k : ℕ}
+    → Walked share base n o requests whole left k []
+    → round_up (filled_stall n share base o requests) ≡ whole
+unfolding walk round_up
+walked_all {whole = whole} {left = left} now =
+    let sum : (whole + 0) * 1 + left * 0 + (1 - 1) ≡ whole = omega arith in
+    ap (λ (w : Walk). round_up (walk_stall w)) now.rest ∙ ap (λ (n : ℕ). n / 1) sum ∙ div-one whole

@@ -1,106 +1,81 @@
 // Answers told as text: words, numbers after a space, and the answers to questions on whole plans.
 #![tactic(auto)]
 
-use span::{PlacementAnswer, SpanAnswer};
-use units::{Head, Periods, Refusal, Workload, wide};
+use std::fmt;
+use std::fmt::{Display, Write};
+use units::{Head, Periods, Plan, Refusal, Requests, Workload};
 
-// Standard output.
+// Standard output, written to by its number: the programs take no handle, which `print!` would need.
+#[derive(Drop)]
+struct Output;
+
+// The number of standard output.
 const STDOUT: i32 = 1;
 
-// Words, as they are.
-pub fn say(words: &[u8]) {
-    io::write_all(STDOUT, words);
+impl Write for Output {
+    // Words, as they are; what the system does not take is passed over.
+    fn write_str(&mut self, words: &str) -> fmt::Result {
+        io::write_all(STDOUT, words.as_bytes());
+        Ok(())
+    }
 }
 
-// A number after a space.
-pub fn tell(number: u32) {
-    say(b" ");
-    io::print_decimal(STDOUT, number as u64);
+// Words or a number, as they are.
+pub fn say(words: impl Display + Drop) {
+    let _ = Output.write(words);
 }
 
 // Each number after a space, and the end of the line.
-pub fn tell_all(numbers: &[u32]) {
-    let mut k = 0;
-    while k < numbers.len() {
-        tell(numbers[k]);
-        k += 1;
+pub fn tell_all<T: Display>(numbers: &[T]) {
+    for number in numbers {
+        say(format_args!(" {number}"));
     }
-    say(b"\n");
-}
-
-// Each rate after a space, and the end of the line.
-pub fn tell_rates(rates: &[u16]) {
-    let mut k = 0;
-    while k < rates.len() {
-        tell(wide(rates[k]));
-        k += 1;
-    }
-    say(b"\n");
+    say("\n");
 }
 
 // A refusal by its number, and the end of the line.
 pub fn tell_refused(refusal: Refusal) {
-    say(b" refused");
-    tell(refusal.number() as u32);
-    say(b"\n");
+    say(format_args!(" refused {}\n", refusal.number()));
 }
 
+// The most intervals that a plan has.
+const MOST: usize = Head::MOST_INTERVALS as usize;
+
+// Room for a placement on any plan. A place left as it was would show a 9.
+const ROOM: [u32; MOST] = [9; MOST];
+
 // The span of a workload on a plan, with the placement where there is one.
-pub fn tell_span(
-    words: &[u8],
-    head: Head,
-    lengths: &[u16],
-    budgets: &[u16],
-    workload: Workload,
-    placement: &mut [u32],
-) {
+pub fn tell_span(words: impl Display + Drop, plan: Plan, workload: Workload) {
+    let mut room = ROOM;
+    let place = &mut room[..plan.lengths.len().min(MOST)];
     say(words);
-    match span::span(head, lengths, budgets, workload, placement) {
-        SpanAnswer::Found {
-            span,
-            stall,
-            rounds,
-        } => {
-            say(b" span");
-            tell(span.0 as u32);
-            say(b" stall");
-            tell(stall.0);
-            say(b" rounds");
-            tell(rounds);
-            say(b" requests");
-            tell_all(placement);
+    match span::span(plan, workload, place) {
+        Ok(found) => {
+            let (span, stall, rounds) = (found.span.0, found.stall.0, found.rounds);
+            say(format_args!(" span {span} stall {stall} rounds {rounds} requests"));
+            tell_all(place);
         }
-        SpanAnswer::Refused(refusal) => tell_refused(refusal),
+        Err(refusal) => tell_refused(refusal),
     }
 }
 
-// The placement and stall at a given W of a workload's requests from its start, with the placement.
+// The placement and stall at a given W of so many requests of a core from a start, with the placement.
 pub fn tell_placement(
-    words: &[u8],
-    head: Head,
-    lengths: &[u16],
-    budgets: &[u16],
-    workload: Workload,
+    words: impl Display + Drop,
+    plan: Plan,
+    core: u8,
+    requests: Requests,
+    start: Periods,
     periods: Periods,
-    placement: &mut [u32],
 ) {
+    let mut room = ROOM;
+    let place = &mut room[..plan.lengths.len().min(MOST)];
     say(words);
-    match span::placement(
-        head,
-        lengths,
-        budgets,
-        workload.core,
-        workload.requests,
-        workload.start,
-        periods,
-        placement,
-    ) {
-        PlacementAnswer::Stall(stall) => {
-            say(b" stall");
-            tell(stall.0);
-            say(b" requests");
-            tell_all(placement);
+    match span::placement(plan, core, requests, start, periods, place) {
+        Ok(stall) => {
+            say(format_args!(" stall {} requests", stall.0));
+            tell_all(place);
         }
-        PlacementAnswer::Refused(refusal) => tell_refused(refusal),
+        Err(refusal) => tell_refused(refusal),
     }
 }

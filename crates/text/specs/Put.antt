@@ -1,6 +1,6 @@
 -- A text put into a place: the bytes before it and after it are kept.
-use Rattle.std.specs.Prelude.{◌≡◌, refl, List, [], ◌∷◌, ◌++◌, ℕ, ◌+◌, ◌≤◌, ◌<◌, length, get_or, take, drop, set}
-use Rattle.std.proofs.Common.{sym, append-nil, append_assoc, add-zero, add_assoc, add-one, arith, length-append, length-take, length-drop, take-append-drop, take-suc, take_at, drop_at, drop-drop}
+use Rattle.std.specs.Prelude.{◌≡◌, refl, List, [], ◌∷◌, ◌++◌, ℕ, ◌+◌, ◌≤◌, ◌<◌, length, take, drop, set}
+use Rattle.std.proofs.Common.{sym, append-nil, append_assoc, add-zero, add_assoc, add-one, arith, length-append, length-take, length-drop, take-append-drop, take_at, drop_at, drop-drop}
 use Rattle.std.proofs.lemmas.List.{set_split}
 use Rattle.std.proofs.Math.Seq.{append_snoc}
 
@@ -54,12 +54,3 @@ module _ {s : List ℕ} {at : ℕ} {before : List ℕ} {next : ℕ} {middle : Li
         within = omega (arith, p.ends, q.within, put_length, both);
         place = rw (q.place, front, ← drop-drop (length t) next middle, back, drop-drop, both, ← append_assoc, ← add_assoc);
       }
-
--- one byte more of a text
-pub put_more : (text : List ℕ) (k : ℕ) {at : ℕ} {before middle : List ℕ}
-    → k < length text
-    → at + k < length before
-    → Put (take k text) at before (at + k) middle
-    → Put (take (k + 1) text) at before (at + (k + 1)) (set middle (at + k) (get_or text k 0))
-put_more text k {at} {before} {middle} h room p =
-    rw (← add_assoc at k 1, add-one k, take-suc text k 0 h) (put_then p (put_one (get_or text k 0) (at + k) middle (omega (arith, put_length p))))

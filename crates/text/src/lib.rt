@@ -1,4 +1,5 @@
 // Text put into a lent place from an index on: words, and numbers in decimal. The rest of the place is kept.
+// Place and index stay two arguments: a struct of both would have to promise at each step that its reference is still the same one.
 #![tactic(auto)]
 
 ghost use Rattle.std.specs.Prelude.{◌≡◌, [], ◌∷◌, ◌+◌, ◌*◌, ◌≤◌, length};
@@ -11,25 +12,18 @@ fn put_word(line: &mut [u8], at: usize, word: &[u8]) -> usize
     requires { at + length word.now ≤ length line.old }
     ensures { Put word.now at line.old result line.new }
 {
-    let mut k = 0;
-    while k < word.len() {
-        line[at + k] = word[k];
-        k += 1;
-    }
-    at + k
+    let next = at + word.len();
+    line[at..next].copy_from_slice(word);
+    next
 }
 
-// How many digits a number has in decimal.
+// How many digits a number has in decimal: 0 has as many as 1.
+#[tactic(auto, using(crate::specs::Decimals::digit_count))]
 fn digits(number: u32) -> usize
     ensures { (result ≡ length (decimal number)) × (result ≤ 10) }
 {
-    let mut count = 1;
-    let mut rest = number;
-    while 10 <= rest {
-        rest /= 10;
-        count += 1;
-    }
-    count
+    // `as`: usize has no From<u32>.
+    number.max(1).ilog10() as usize + 1
 }
 
 // A number in decimal, from an index on; the index after it. The last digit is written first.
@@ -39,12 +33,10 @@ pub fn put_number(line: &mut [u8], at: usize, number: u32) -> usize
 {
     let count = digits(number);
     let mut rest = number;
-    let mut k = 0;
-    while k < count {
-        let place = count - 1 - k;
+    for place in (0..count).rev() {
+        // `as`: u8::try_from would give a Result for what is always a digit.
         line[at + place] = b'0' + (rest % 10) as u8;
         rest /= 10;
-        k += 1;
     }
     at + count
 }
@@ -63,8 +55,7 @@ pub fn put_figure(line: &mut [u8], at: usize, word: &[u8], number: u32) -> usize
     requires { at + length word.now + 11 ≤ length line.old }
     ensures { FiguresPut word.now (number ∷ []) at line.old result line.new }
 {
-    let after = put_word(line, at, word);
-    put_spaced(line, after, number)
+    put_figures(line, at, word, &[number])
 }
 
 // Each number after one space, from an index on; the index after the last.
@@ -73,10 +64,8 @@ fn put_numbers(line: &mut [u8], at: usize, numbers: &[u32]) -> usize
     ensures { Put (spaced numbers.now) at line.old result line.new × (result ≤ at + 11 * length numbers.now) }
 {
     let mut after = at;
-    let mut listed = 0;
-    while listed < numbers.len() {
-        after = put_spaced(line, after, numbers[listed]);
-        listed += 1;
+    for number in numbers {
+        after = put_spaced(line, after, *number);
     }
     after
 }

@@ -2,42 +2,27 @@
 // of periods is wanted.
 #![tactic(auto)]
 
-ghost use Rattle.std.specs.Prelude.{◌≡◌, ◌+◌, ◌*◌, ◌≤◌};
+ghost use Rattle.std.specs.Prelude.{◌≡◌, ◌*◌, ◌≤◌, ◌<◌, [], length, get_or};
+ghost use Rattle.meaning.specs.Plan.{sum_of, rows, most_intervals};
+ghost use Rattle.units.specs.Given.{plan_of};
 ghost use Rattle.units.specs.Units.{slots_of, per_period_of, periods_of, requests_of, periods_holding};
 ghost use Rattle.units.specs.Refusals.{number_of};
 
+mod corner; // corner.rt: the corners of an interval's curve
+
+pub use corner::{Block, Corner};
+
 // Slots: each is one worst-case memory transaction long.
-#[derive(Clone, Copy)]
+#[derive(Clone, Copy, Debug, PartialEq, Eq)]
 pub struct Slots(pub u32);
 
 // Regulation periods.
-#[derive(Clone, Copy)]
+#[derive(Clone, Copy, Debug, PartialEq, Eq)]
 pub struct Periods(pub u16);
 
 // Requests: each is one memory transaction.
-#[derive(Clone, Copy)]
+#[derive(Clone, Copy, Debug, PartialEq, Eq)]
 pub struct Requests(pub u32);
-
-// What a checked maker of slots gives.
-#[derive(Clone, Copy)]
-pub enum MadeSlots {
-    Within(Slots),
-    Outside,
-}
-
-// What a checked maker of periods gives.
-#[derive(Clone, Copy)]
-pub enum MadePeriods {
-    Within(Periods),
-    Outside,
-}
-
-// What a checked maker of requests gives.
-#[derive(Clone, Copy)]
-pub enum MadeRequests {
-    Within(Requests),
-    Outside,
-}
 
 impl Slots {
     // The most slots that the longest plan has: 65,535 periods of 65,535 slots.
@@ -46,39 +31,39 @@ impl Slots {
     // The most slots that one period has.
     pub const MAX_PER_PERIOD: u32 = 65_535;
 
-    // The slots, where the longest plan has so many.
-    pub fn checked(count: u64) -> MadeSlots
+    // The slots, where the longest plan has so many. Each unit has a maker of its own: document 01 wants the limit with the unit it bounds.
+    pub fn checked(count: u64) -> Option<Slots>
         ensures { result ≡ slots_of count }
     {
-        if count <= Slots::MAX as u64 {
-            MadeSlots::Within(Slots(count as u32))
+        if count <= u64::from(Slots::MAX) {
+            Some(Slots(count as u32))
         } else {
-            MadeSlots::Outside
+            None
         }
     }
 
     // The slots of one period, where a period can have so many.
-    pub fn checked_per_period(count: u64) -> MadeSlots
+    pub fn checked_per_period(count: u64) -> Option<Slots>
         ensures { result ≡ per_period_of count }
     {
         if count == 0 {
-            return MadeSlots::Outside;
+            return None;
         }
-        if count <= Slots::MAX_PER_PERIOD as u64 {
-            MadeSlots::Within(Slots(count as u32))
+        if count <= u64::from(Slots::MAX_PER_PERIOD) {
+            Some(Slots(count as u32))
         } else {
-            MadeSlots::Outside
+            None
         }
     }
 
     // The least number of periods that holds these slots, where a plan can have so many.
-    pub fn periods(self, per_period: Slots) -> MadePeriods
+    pub fn periods(self, per_period: Slots) -> Option<Periods>
         ensures { result ≡ periods_holding self.0 per_period.0 }
     {
         if per_period.0 == 0 {
-            return MadePeriods::Outside;
+            return None;
         }
-        let rounded = (self.0 as u64 + (per_period.0 as u64 - 1)) / per_period.0 as u64;
+        let rounded = u64::from(self.0).div_ceil(u64::from(per_period.0));
         Periods::checked(rounded)
     }
 }
@@ -88,21 +73,21 @@ impl Periods {
     pub const MAX: u16 = 65_535;
 
     // The periods, where a plan can have so many.
-    pub fn checked(count: u64) -> MadePeriods
+    pub fn checked(count: u64) -> Option<Periods>
         ensures { result ≡ periods_of count }
     {
-        if count <= Periods::MAX as u64 {
-            MadePeriods::Within(Periods(count as u16))
+        if count <= u64::from(Periods::MAX) {
+            Some(Periods(count as u16))
         } else {
-            MadePeriods::Outside
+            None
         }
     }
 
     // The slots of these periods.
-    pub fn slots(self, per_period: Slots) -> MadeSlots
+    pub fn slots(self, per_period: Slots) -> Option<Slots>
         ensures { result ≡ slots_of (self.0 * per_period.0) }
     {
-        Slots::checked(self.0 as u64 * per_period.0 as u64)
+        Slots::checked(u64::from(self.0) * u64::from(per_period.0))
     }
 }
 
@@ -111,13 +96,13 @@ impl Requests {
     pub const MAX: u32 = 4_294_836_225;
 
     // The requests, where a workload can have so many.
-    pub fn checked(count: u64) -> MadeRequests
+    pub fn checked(count: u64) -> Option<Requests>
         ensures { result ≡ requests_of count }
     {
-        if count <= Requests::MAX as u64 {
-            MadeRequests::Within(Requests(count as u32))
+        if count <= u64::from(Requests::MAX) {
+            Some(Requests(count as u32))
         } else {
-            MadeRequests::Outside
+            None
         }
     }
 
@@ -145,6 +130,29 @@ impl Head {
     pub const MOST_INTERVALS: u8 = 64;
 }
 
+// A plan as it is lent for a call: its head, the periods of each of its intervals, and its budgets, interval by interval with core 1 first.
+// Nothing is said of it before it is judged.
+#[derive(Clone, Copy)]
+pub struct Plan<'a> {
+    pub head: Head,
+    pub lengths: &'a [u16],
+    pub budgets: &'a [u16],
+}
+
+impl<'a> Plan<'a> {
+    // The budgets of an interval, counted from 0, where there are as many as intervals and cores ask for.
+    pub fn row(self, interval: usize) -> &'a [u16]
+        requires inside { interval < length self.lengths.now }
+        requires whole { length self.budgets.now ≡ length self.lengths.now * self.head.cores }
+        ensures row { result.now ≡ get_or (rows (plan_of self.entry)) interval [] }
+        ensures cores { length result.now ≡ self.entry.head.cores }
+    {
+        let cores = usize::from(self.head.cores);
+        let start = interval * cores;
+        &self.budgets[start..start + cores]
+    }
+}
+
 // A workload: the core that it runs on, counted from 1, its computing and its requests there, the horizon, the last period of interest, and
 // the start, how many periods of the plan are over when it is released; the horizon counts from there.
 #[derive(Clone, Copy)]
@@ -161,80 +169,54 @@ impl Workload {
     pub const MOST: u16 = 256;
 }
 
-// The corners of one interval in a fixed block of nine, with a count; places past the count are 0.
+// The workloads of a file as they are lent for a call, in four lists: of each its core, counted from 1, its computing, its requests and its
+// horizon; the start of each is 0. Nothing is said of the lists before they are judged.
 #[derive(Clone, Copy)]
-pub struct Block {
-    pub rates: [u16; 9],
-    pub stalls: [u16; 9],
-    pub count: u8,
+pub struct Workloads<'a> {
+    pub analysed: &'a [u8],
+    pub computing: &'a [u32],
+    pub requests: &'a [u32],
+    pub horizons: &'a [u16],
 }
 
-impl Block {
-    // The block of no corners.
-    pub const EMPTY: Block = Block {
-        rates: [0u16; 9],
-        stalls: [0u16; 9],
-        count: 0,
-    };
-}
-
-// A number of two bytes as one of four.
-pub fn wide(number: u16) -> u32
-    ensures { (result ≡ number) × (result ≤ 65_535) }
+// The sum of the lengths of a plan, or of the budgets of an interval.
+pub fn sum(numbers: &[u16]) -> u32
+    requires { length numbers.now ≤ most_intervals }
+    ensures { result ≡ sum_of numbers.now }
 {
-    number as u32
+    numbers.iter().map(|number| u32::from(*number)).sum()
 }
 
 // What a question is refused for, one case for each number of the table in document 01 but 7, which is unused since request 2026-02; 14 is
 // from request 2026-03.
-#[derive(Clone, Copy)]
+#[derive(Clone, Copy, Debug, PartialEq, Eq)]
 pub enum Refusal {
-    CoresOutside,
-    PerPeriodOutside,
-    IntervalsOrBudgetsOutside,
-    PeriodsOutside,
-    SumNotPerPeriod,
-    CoreOutside,
-    ComputingOutside,
-    RequestsOutside,
-    HorizonOutside,
-    NoRoom,
-    NoSpan,
-    RateAboveBudget,
-    StartOutside,
-    FileEnds,
-    KindNotAllowed,
-    LengthWrong,
-    BitsNotZero,
-    ListedBudgetZero,
-    WorkloadListsWrong,
+    CoresOutside = 1,
+    PerPeriodOutside = 2,
+    IntervalsOrBudgetsOutside = 3,
+    PeriodsOutside = 4,
+    SumNotPerPeriod = 5,
+    CoreOutside = 6,
+    ComputingOutside = 8,
+    RequestsOutside = 9,
+    HorizonOutside = 10,
+    NoRoom = 11,
+    NoSpan = 12,
+    RateAboveBudget = 13,
+    StartOutside = 14,
+    FileEnds = 20,
+    KindNotAllowed = 21,
+    LengthWrong = 22,
+    BitsNotZero = 23,
+    ListedBudgetZero = 24,
+    WorkloadListsWrong = 25,
 }
 
 impl Refusal {
-    // The number in document 01's table.
+    // The number in document 01's table, which stands beside the case.
     pub fn number(self) -> u8
         ensures { result ≡ number_of self }
     {
-        match self {
-            Refusal::CoresOutside => 1,
-            Refusal::PerPeriodOutside => 2,
-            Refusal::IntervalsOrBudgetsOutside => 3,
-            Refusal::PeriodsOutside => 4,
-            Refusal::SumNotPerPeriod => 5,
-            Refusal::CoreOutside => 6,
-            Refusal::ComputingOutside => 8,
-            Refusal::RequestsOutside => 9,
-            Refusal::HorizonOutside => 10,
-            Refusal::NoRoom => 11,
-            Refusal::NoSpan => 12,
-            Refusal::RateAboveBudget => 13,
-            Refusal::StartOutside => 14,
-            Refusal::FileEnds => 20,
-            Refusal::KindNotAllowed => 21,
-            Refusal::LengthWrong => 22,
-            Refusal::BitsNotZero => 23,
-            Refusal::ListedBudgetZero => 24,
-            Refusal::WorkloadListsWrong => 25,
-        }
+        self as u8
     }
 }

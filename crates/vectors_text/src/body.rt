@@ -1,141 +1,141 @@
 // Numbers out of a record's body, the low byte first. Past the body's end there are zeros.
-ghost use Rattle.std.specs.Prelude.{◌≡◌, ◌≤◌, length};
+ghost use Rattle.std.specs.Prelude.{◌≡◌, ℕ, ◌<◌, ◌≤◌, ◌↔◌, IsTrue, ◌-◌, ◌/◌, ◌%◌, min, length, List, EachIndex, drop, slice_index};
+ghost use Rattle.std.specs.Int.{w8, w16, w32, from_le_bytes};
+ghost use Rattle.std.proofs.Common.{rules};
+ghost use Rattle.arrayvec.specs.ArrayVec.{array_vec_len};
 
-use crate::places::{ROOM, unwritten_bytes, unwritten_fours, unwritten_twos};
+use crate::places::ROOM;
+use arrayvec::ArrayVec;
 use units::{Head, Slots};
 
-// A byte, as wide as a number of two bytes.
-fn wide(byte: u8) -> u16
-    ensures { result ≤ 255 }
+// A number of a body: so many bytes, the low byte first.
+pub trait Number: Default + Drop {
+    // How many bytes the number has.
+    ghost SIZE: { ℕ };
+
+    // The number at the front of the bytes.
+    ghost first_of: { List ℕ → Self };
+
+    // How many bytes the number has, for the code.
+    const SIZE: usize;
+
+    // The number at the front of the bytes; past their end there are zeros.
+    fn first(bytes: &[u8]) -> Self
+        ensures { result ≡ first_of bytes.now };
+
+    // A number has a byte at least.
+    ghost has_bytes: { 0 < SIZE };
+}
+
+impl Number for u8 {
+    ghost SIZE = { 1 };
+
+    ghost first_of = { from_le_bytes w8 };
+
+    const SIZE: usize = 1;
+
+    fn first(bytes: &[u8]) -> u8 {
+        u8::from_le_bytes(front(bytes))
+    }
+
+    ghost has_bytes = { Prim.search rules };
+}
+
+impl Number for u16 {
+    ghost SIZE = { 2 };
+
+    ghost first_of = { from_le_bytes w16 };
+
+    const SIZE: usize = 2;
+
+    fn first(bytes: &[u8]) -> u16 {
+        u16::from_le_bytes(front(bytes))
+    }
+
+    ghost has_bytes = { Prim.search rules };
+}
+
+impl Number for u32 {
+    ghost SIZE = { 4 };
+
+    ghost first_of = { from_le_bytes w32 };
+
+    const SIZE: usize = 4;
+
+    fn first(bytes: &[u8]) -> u32 {
+        u32::from_le_bytes(front(bytes))
+    }
+
+    ghost has_bytes = { Prim.search rules };
+}
+
+// The first so many bytes; past their end there are zeros.
+fn front<const SIZE: usize>(bytes: &[u8]) -> [u8; SIZE]
+    ensures { EachIndex result (λ index. slice_index result index ≡ slice_index bytes.now index) }
 {
-    byte as u16
+    let mut front = [0; SIZE];
+    let size = bytes.len().min(SIZE);
+    front[..size].copy_from_slice(&bytes[..size]);
+    front
 }
 
-// The byte at an index.
-pub fn byte_at(body: &[u8], at: usize) -> u8 {
-    if at < body.len() { body[at] } else { 0 }
+// The bytes from an index on; past the body's end there are none.
+fn rest(body: &[u8], at: usize) -> &[u8]
+    ensures { result.now ≡ drop at body.now }
+{
+    body.get(at..).unwrap_or(&[])
 }
 
-// The number of two bytes at an index.
-pub fn two_at(body: &[u8], at: usize) -> u16 {
-    if at < body.len() {
-        wide(body[at]) + 256 * wide(byte_at(body, at + 1))
-    } else {
-        0
+// The number at an index.
+pub fn number_at<T: Number>(body: &[u8], at: usize) -> T
+    ensures { result ≡ T.first_of (drop at body.now) }
+{
+    T::first(rest(body, at))
+}
+
+// The numbers from an index on: so many, or as many as the body and a place have.
+pub fn numbers_from<T: Number>(body: &[u8], at: usize, count: usize) -> ArrayVec<T, ROOM>
+    ensures { array_vec_len result ≤ count }
+{
+    let mut numbers = ArrayVec::new();
+    // No plainer as a chain: `collect` takes an allocator, and `extend` gives a Result that would be thrown away.
+    for bytes in rest(body, at).chunks(T::SIZE).take(count.min(ROOM)) {
+        numbers.push(T::first(bytes));
     }
+    numbers
 }
 
-// The number of four bytes at an index.
-pub fn four_at(body: &[u8], at: usize) -> u32 {
-    if at < body.len() {
-        two_at(body, at) as u32 + 65_536 * (two_at(body, at + 2) as u32)
-    } else {
-        0
-    }
-}
-
-// The mark of a plan behind Q, which is at an index: 0 is a plain plan.
-fn mark_behind(body: &[u8], at: usize) -> bool {
-    at < body.len() && byte_at(body, at + 4) != 0
-}
-
-// A plan's head: the cores first in the body, Q at an index, and the mark behind it.
+// A plan's head: the cores first in the body, Q at an index, and the mark behind it; 0 is a plain plan.
 pub fn head_at(body: &[u8], at: usize) -> Head {
+    let behind = rest(body, at);
     Head {
-        cores: byte_at(body, 0),
-        per_period: Slots(four_at(body, at)),
-        repeating: mark_behind(body, at),
+        cores: number_at(body, 0),
+        per_period: Slots(number_at(behind, 0)),
+        repeating: number_at::<u8>(behind, 4) != 0,
     }
 }
 
-// Whether the count of two bytes at an index is within a place.
-pub fn is_within(body: &[u8], at: usize) -> bool {
-    two_at(body, at) as usize <= ROOM
-}
-
-// A count that is lent at most the whole of a place.
-fn within(count: usize) -> usize
-    ensures { result ≤ 8_192 }
+// Whether the count of two bytes at an index is within a place. No plainer as an Option of `count_at`: a question asks this of six at once.
+pub fn is_within(body: &[u8], at: usize) -> bool
+    ensures { IsTrue result ↔ (from_le_bytes w16 (drop at body.now) ≤ 8_192) }
 {
-    if count <= ROOM { count } else { ROOM }
+    usize::from(number_at::<u16>(body, at)) <= ROOM
 }
 
 // The count of two bytes at an index, which is within a place.
 pub fn count_at(body: &[u8], at: usize) -> usize
-    ensures { result ≤ 8_192 }
+    ensures within { result ≤ 8_192 }
+    ensures value { result ≡ min (from_le_bytes w16 (drop at body.now)) 8_192 }
 {
-    within(two_at(body, at) as usize)
-}
-
-// How many numbers of two bytes there are from an index to the body's end.
-pub fn count_from(body: &[u8], at: usize) -> usize
-    ensures { result ≤ 8_192 }
-{
-    if body.len() < at {
-        return 0;
-    }
-    within((body.len() - at) / 2)
+    usize::from(number_at::<u16>(body, at)).min(ROOM)
 }
 
 // Whether the body ends with whole numbers of two bytes from an index on, and they are within a place.
-pub fn ends_in_twos(body: &[u8], at: usize) -> bool {
-    if body.len() < at {
-        return false;
-    }
-    let left = body.len() - at;
-    left % 2 == 0 && left / 2 <= ROOM
-}
-
-// The bytes from an index on, to the body's end.
-pub fn bytes_from(body: &[u8], at: usize) -> [u8; ROOM]
-    ensures { 8_192 ≡ length result }
+pub fn ends_in_twos(body: &[u8], at: usize) -> bool
+    ensures { IsTrue result ↔ ((at ≤ length body.now)
+        × ((length body.now - at) % 2 ≡ 0)
+        × ((length body.now - at) / 2 ≤ 8_192)) }
 {
-    let mut place = unwritten_bytes();
-    let mut from = at;
-    let mut k = 0;
-    while from < body.len() {
-        if ROOM <= k {
-            return place;
-        }
-        place[k] = byte_at(body, from);
-        from += 1;
-        k += 1;
-    }
-    place
-}
-
-// The numbers of two bytes from an index on, to the body's end.
-pub fn twos_from(body: &[u8], at: usize) -> [u16; ROOM]
-    ensures { 8_192 ≡ length result }
-{
-    let mut place = unwritten_twos();
-    let mut from = at;
-    let mut k = 0;
-    while from < body.len() {
-        if ROOM <= k {
-            return place;
-        }
-        place[k] = two_at(body, from);
-        from += 2;
-        k += 1;
-    }
-    place
-}
-
-// The numbers of four bytes from an index on, to the body's end.
-pub fn fours_from(body: &[u8], at: usize) -> [u32; ROOM]
-    ensures { 8_192 ≡ length result }
-{
-    let mut place = unwritten_fours();
-    let mut from = at;
-    let mut k = 0;
-    while from < body.len() {
-        if ROOM <= k {
-            return place;
-        }
-        place[k] = four_at(body, from);
-        from += 4;
-        k += 1;
-    }
-    place
+    body.get(at..)
+        .is_some_and(|rest| rest.len() % 2 == 0 && rest.len() / 2 <= ROOM)
 }

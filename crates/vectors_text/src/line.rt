@@ -1,120 +1,77 @@
-// The text of an answer. Each function writes from an index of the line on and gives the index after; past the line's end nothing
-// is written.
-ghost use Rattle.std.specs.Prelude.{◌≤◌, length};
+// The text of an answer, put behind what the line holds. A line that is full refuses the rest.
+ghost use Rattle.std.specs.Prelude.{◌≡◌, ℕ, List, ◌∷◌, ◌++◌, codes, OnOk};
+ghost use Rattle.std.specs.Fmt.{decimal};
+ghost use Rattle.units.specs.Refusals.{number_of};
+ghost use Rattle.vectors_text.specs.Text.{Prints, spaced};
 
+use arrayvec::ArrayString;
+use std::fmt;
+use std::fmt::{Display, Write};
 use units::Refusal;
 
-// One byte of text.
-pub fn put_byte(line: &mut [u8], at: usize, byte: u8) -> usize
-    ensures { result ≤ length line.new }
-{
-    if at < line.len() {
-        line[at] = byte;
-        return at + 1;
-    }
-    line.len()
-}
+// A line of text, with room for the longest: six places of 8,192 numbers of at most 44 characters together.
+pub type Line = ArrayString<400_000>;
 
-// A word.
-fn put_word(line: &mut [u8], at: usize, word: &[u8]) -> usize
-    requires { at ≤ length line.old }
-    ensures { result ≤ length line.new }
+// Numbers, each after one space.
+fn write_numbers<T: Display>(line: &mut Line, numbers: &[T]) -> fmt::Result
+    ensures { (text : T → List ℕ) → Prints T.output text
+        → OnOk result (line.new.bytes ≡ line.old.bytes ++ spaced text numbers.now) }
 {
-    let mut after = at;
-    let mut k = 0;
-    while k < word.len() {
-        after = put_byte(line, after, word[k]);
-        k += 1;
+    for number in numbers {
+        write!(line, " {number}")?;
     }
-    after
-}
-
-// A number in decimal: all digits but the last, and the last.
-fn put_number(line: &mut [u8], at: usize, number: usize) -> usize
-    ensures { result ≤ length line.new }
-{
-    let last = b'0' + (number % 10) as u8;
-    if number < 10 {
-        return put_byte(line, at, last);
-    }
-    let after = put_number(line, at, number / 10);
-    put_byte(line, after, last)
-}
-
-// A number after one space.
-fn put_spaced(line: &mut [u8], at: usize, number: usize) -> usize
-    ensures { result ≤ length line.new }
-{
-    let after = put_byte(line, at, b' ');
-    put_number(line, after, number)
+    Ok(())
 }
 
 // The start of an answer: its word, the refusal's number or 0, and the results.
-pub fn put_start(line: &mut [u8], word: &[u8], refusal: u8, results: &[usize]) -> usize
-    ensures { result ≤ length line.new }
+fn write_start(line: &mut Line, word: &str, refusal: u8, results: &[usize]) -> fmt::Result
+    ensures { OnOk result
+        (line.new.bytes ≡ line.old.bytes ++ word.now ++ spaced decimal (refusal ∷ results.now)) }
 {
-    let at = put_word(line, 0, word);
-    let mut after = put_spaced(line, at, refusal as usize);
-    let mut k = 0;
-    while k < results.len() {
-        after = put_spaced(line, after, results[k]);
-        k += 1;
-    }
-    after
+    write!(line, "{word} {refusal}")?;
+    write_numbers(line, results)
 }
 
-// The start of a refused answer, whose results are 0.
-pub fn put_refused(line: &mut [u8], word: &[u8], refusal: Refusal, results: &[usize]) -> usize
-    ensures { result ≤ length line.new }
+// The start of a refused answer, with what stands in the place of the results.
+fn write_refused(line: &mut Line, word: &str, refusal: Refusal, results: &[usize]) -> fmt::Result
+    ensures { OnOk result
+        (line.new.bytes ≡ line.old.bytes ++ word.now ++ spaced decimal (number_of refusal ∷ results.now)) }
 {
-    put_start(line, word, refusal.number(), results)
+    write_start(line, word, refusal.number(), results)
 }
 
-// A lent place of bytes, all of it.
-pub fn put_bytes(line: &mut [u8], at: usize, place: &[u8]) -> usize
-    requires { at ≤ length line.old }
-    ensures { result ≤ length line.new }
+// A lent place of numbers, all of it.
+fn write_place<T: Display>(line: &mut Line, place: &[T]) -> fmt::Result
+    ensures { (text : T → List ℕ) → Prints T.output text
+        → OnOk result (line.new.bytes ≡ line.old.bytes ++ codes " :" ++ spaced text place.now) }
 {
-    let mut after = put_word(line, at, b" :");
-    let mut k = 0;
-    while k < place.len() {
-        after = put_spaced(line, after, place[k] as usize);
-        k += 1;
-    }
-    after
-}
-
-// A lent place of numbers of two bytes, all of it.
-pub fn put_twos(line: &mut [u8], at: usize, place: &[u16]) -> usize
-    requires { at ≤ length line.old }
-    ensures { result ≤ length line.new }
-{
-    let mut after = put_word(line, at, b" :");
-    let mut k = 0;
-    while k < place.len() {
-        after = put_spaced(line, after, place[k] as usize);
-        k += 1;
-    }
-    after
-}
-
-// A lent place of numbers of four bytes, all of it.
-pub fn put_fours(line: &mut [u8], at: usize, place: &[u32]) -> usize
-    requires { at ≤ length line.old }
-    ensures { result ≤ length line.new }
-{
-    let mut after = put_word(line, at, b" :");
-    let mut k = 0;
-    while k < place.len() {
-        after = put_spaced(line, after, place[k] as usize);
-        k += 1;
-    }
-    after
+    line.write_str(" :")?;
+    write_numbers(line, place)
 }
 
 // The answer to a record that is no question.
-pub fn malformed(line: &mut [u8]) -> usize
-    ensures { result ≤ length line.new }
+fn write_malformed(line: &mut Line) -> fmt::Result
+    ensures { OnOk result (line.new.bytes ≡ line.old.bytes ++ codes "malformed") }
 {
-    put_word(line, 0, b"malformed")
+    line.write_str("malformed")
+}
+
+// The start of an answer, as far as the line has room.
+pub fn put_start(line: &mut Line, word: &str, refusal: u8, results: &[usize]) {
+    let _ = write_start(line, word, refusal, results);
+}
+
+// The start of a refused answer, as far as the line has room.
+pub fn put_refused(line: &mut Line, word: &str, refusal: Refusal, results: &[usize]) {
+    let _ = write_refused(line, word, refusal, results);
+}
+
+// A lent place of numbers, as far as the line has room.
+pub fn put_place<T: Display>(line: &mut Line, place: &[T]) {
+    let _ = write_place(line, place);
+}
+
+// The answer to a record that is no question, where the line has room.
+pub fn malformed(line: &mut Line) {
+    let _ = write_malformed(line);
 }

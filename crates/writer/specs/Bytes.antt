@@ -1,17 +1,15 @@
 -- The bytes of rows, interval records and workload records, as they are stored one behind the other.
-use Rattle.std.specs.Prelude.{◌≡◌, refl, cond, ℕ, suc, ◌+◌, ◌-◌, ◌*◌, ◌/◌, ◌%◌, ◌≤◌, ◌<◌, length, get_or, drop, eqb}
-use Rattle.std.proofs.Common.{sym, ap, ◌∙◌, add-zero, suc-mul, mul-le-mul_right, arith, length-append, length-take, length-drop, drop_of_length-le, get_or-take, get_or-drop, drop-drop}
-use mathlib.Core.List.{List, [], ◌∷◌, ◌++◌, append-nil}
-use Rattle.std.proofs.Math.Numerals.{add-one}
-use Rattle.std.proofs.Math.Seq.{drop-cons}
+use Rattle.std.specs.Prelude.{◌≡◌, refl, Bool, true, false, cond, List, [], ◌∷◌, ◌++◌, ℕ, ◌+◌, ◌*◌, ◌/◌, ◌%◌, ◌^◌, ◌≤◌, ◌<◌, length, get_or, take, drop, eqb}
+use Rattle.std.proofs.Common.{sym, ap, ◌∙◌, add-zero, add-one, append-nil, pow-suc, drop-cons, arith, length-append, length-take, drop_of_length-le, get_or-drop, drop-drop, eq-eqb, ne_eqb}
+use Rattle.std.proofs.lemmas.List.{take_more}
 use Rattle.std.specs.Int.Count.{ones}
-use Rattle.meaning.specs.Plan.{rows_of}
+use Rattle.meaning.specs.Plan.{Plan, rows}
 use Rattle.meaning.specs.PlanFile.{Workloads, two_bytes, mask_of, listed_of, interval_records, workload_records}
 use Rattle.meaning.specs.Listing.{workload_at}
-use Rattle.plan_laws.specs.SoundPlan.{rows_from}
-use Rattle.file_laws.specs.Masks.{mask_from, listed_count}
+use Rattle.plan_laws.specs.SoundPlan.{rows_from, row_at}
+use Rattle.file_laws.specs.Masks.{listed_count}
 use Rattle.file_laws.specs.RecordBytes.{interval_bytes, interval_bytes_lem, workload_bytes}
-use Rattle.writer.specs.Writing.{row_from, start_bytes, bytes_of}
+use Rattle.writer.specs.Writing.{start_bytes, bytes_of}
 
 -- a byte and a zero byte are the byte as a number of two bytes
 pub byte_stored : (n : ℕ) → n < 256 → two_bytes n ≡ n ∷ 0 ∷ []
@@ -20,67 +18,68 @@ byte_stored n h =
     let high : n / 256 % 256 ≡ 0 = omega arith in
     λ i. low i ∷ high i ∷ []
 
-module _ (budgets : List ℕ) (start m : ℕ) (h : start + m ≤ length budgets) where
-  -- a row has a budget for each core
-  pub row_length : length (row_from budgets start m) ≡ m
-  row_length = simp (length-take, length-drop) (omega arith)
+-- one core more with a budget, or without one
+mask_more : (xs : List ℕ) (b : ℕ) → mask_of (xs ++ (b ∷ [])) ≡ mask_of xs + cond (eqb b 0) 0 1 * 2 ^ length xs
+unfolding mask_of
+mask_more [] b = go (eqb b 0)
+  where
+    go : (none : Bool) → cond none 0 1 + 2 * 0 ≡ 0 + cond none 0 1 * 2 ^ 0
+    go true = refl
+    go false = refl
+mask_more (x ∷ xs) b = rw (mask_more xs b, pow-suc 2 (length xs)) (go (eqb b 0))
+  where
+    go : (none : Bool)
+        → cond (eqb x 0) 0 1 + 2 * (mask_of xs + cond none 0 1 * 2 ^ length xs)
+        ≡ cond (eqb x 0) 0 1 + 2 * mask_of xs + cond none 0 1 * (2 ^ length xs * 2)
+    go true = omega arith
+    go false = omega arith
 
-  -- and it is the plan's
-  row_budget : (k : ℕ) → k < m → get_or (row_from budgets start m) k 0 ≡ get_or budgets (start + k) 0
-  row_budget k within = get_or-take m (drop start budgets) k 0 within ∙ get_or-drop start budgets k 0
+module _ (row : List ℕ) (k : ℕ) (h : k < length row) where
+  -- the first cores of a row and one more
+  one_more : take (k + 1) row ≡ take k row ++ (get_or row k 0 ∷ [])
+  one_more = take_more row k 0 h
 
-  -- the mask from a core on, by one core less
-  pub mask_step : (core : ℕ)
-      → 0 < core
-      → core ≤ m
-      → cond (eqb (get_or budgets (start + (core - 1)) 0) 0) 0 1 + 2 * mask_of (drop core (row_from budgets start m))
-      ≡ mask_of (drop (core - 1) (row_from budgets start m))
-  mask_step core some few =
-      let row = row_from budgets start m in
-      let last : suc (core - 1) ≡ core = omega arith in
-      let budget = row_budget (core - 1) (omega arith) in
-      sym (rw (last, budget) at (mask_from (core - 1) row (omega (arith, row_length))))
+  few : length (take k row) ≡ k
+  few = rw length-take (omega arith)
+
+  -- the mask of the first cores of a row, with one core more that has a budget
+  pub mask_listed : (get_or row k 0 ≡ 0 → ⊥) → mask_of (take (k + 1) row) ≡ mask_of (take k row) + 2 ^ k
+  mask_listed some = ap mask_of one_more ∙ mask_more (take k row) (get_or row k 0) ∙ rw (ne_eqb _ _ some, few) (omega arith)
+
+  -- and with one that has none
+  pub mask_unlisted : get_or row k 0 ≡ 0 → mask_of (take (k + 1) row) ≡ mask_of (take k row)
+  mask_unlisted none = ap mask_of one_more ∙ mask_more (take k row) (get_or row k 0) ∙ rw (eq-eqb _ _ none) (omega arith)
 
   -- what is listed from a core on is its budget and what is listed behind it
-  pub listed_from : (k : ℕ)
-      → k < m
-      → listed_of (drop k (row_from budgets start m))
-      ≡ listed_of (get_or budgets (start + k) 0 ∷ []) ++ listed_of (drop (k + 1) (row_from budgets start m))
+  pub listed_from : listed_of (drop k row) ≡ listed_of (get_or row k 0 ∷ []) ++ listed_of (drop (k + 1) row)
   unfolding listed_of
-  listed_from k within =
-      let row = row_from budgets start m in
+  listed_from =
       rw (
-        drop-cons row k 0 (omega (arith, row_length)),
-        row_budget k within,
+        drop-cons row k 0 h,
         add-one k,
-        append-nil (cond (eqb (get_or budgets (start + k) 0) 0) [] (two_bytes (get_or budgets (start + k) 0))),
+        append-nil (cond (eqb (get_or row k 0) 0) [] (two_bytes (get_or row k 0))),
       )
 
-  -- behind the last core there is nothing
-  pub listed_past : listed_of (drop m (row_from budgets start m)) ≡ []
-  unfolding listed_of
-  listed_past = rw (drop_of_length-le (row_from budgets start m) {i = m} (omega (arith, row_length)))
+-- behind the last core there is nothing
+pub listed_past : (row : List ℕ) (k : ℕ) → length row ≤ k → listed_of (drop k row) ≡ []
+unfolding listed_of
+listed_past row k h = rw (drop_of_length-le row {i = k} h)
 
--- the row of each interval lies within the budgets
-pub row_within : (i n m b : ℕ) → i < n → b ≡ n * m → i * m + m ≤ b
-row_within i n m b h e = omega (arith, suc-mul i m, mul-le-mul_right m h)
-
--- the interval records from one on
-abbrev pub records_from : ℕ → List ℕ → List ℕ → ℕ → List ℕ
-records_from m lengths budgets i = interval_records (drop i lengths) (drop i (rows_of m lengths budgets))
+-- the interval records of a plan from one on
+abbrev pub records_from : Plan → ℕ → List ℕ
+records_from p i = interval_records (drop i p.lengths) (drop i (rows p))
 
 -- are its record and those after it
-pub records_from_lem : (m : ℕ) (lengths budgets : List ℕ) (i : ℕ)
-    → i < length lengths
-    → records_from m lengths budgets i
-    ≡ interval_bytes (get_or lengths i 0) (row_from budgets (i * m) m) ++ records_from m lengths budgets (i + 1)
+pub records_from_lem : (p : Plan) (i : ℕ)
+    → i < length p.lengths
+    → records_from p i ≡ interval_bytes (get_or p.lengths i 0) (get_or (rows p) i []) ++ records_from p (i + 1)
 unfolding interval_records interval_bytes
-records_from_lem m lengths budgets i h = rw (rows_from m lengths budgets i h, drop-cons lengths i 0 h, add-one i)
+records_from_lem p i h = rw (row_at p.cores p.lengths p.budgets i h, rows_from p.cores p.lengths p.budgets i h, drop-cons p.lengths i 0 h, add-one i)
 
 -- behind the last there is none
-pub records_past : (m : ℕ) (lengths budgets : List ℕ) (i : ℕ) → length lengths ≤ i → records_from m lengths budgets i ≡ []
+pub records_past : (p : Plan) (i : ℕ) → length p.lengths ≤ i → records_from p i ≡ []
 unfolding interval_records
-records_past m lengths budgets i h = rw (drop_of_length-le lengths h)
+records_past p i h = rw (drop_of_length-le p.lengths h)
 
 -- the length of an interval record
 pub interval_room : (l : ℕ) (row : List ℕ) → length (interval_bytes l row) ≡ 8 + length (listed_of row)
@@ -88,18 +87,17 @@ unfolding interval_bytes
 interval_room l row = omega arith
 
 -- so the lengths of the records add up by their masks
-pub records_length : (m : ℕ) (lengths budgets : List ℕ) (i : ℕ)
-    → i < length lengths
-    → length (records_from m lengths budgets i)
-    ≡ 8 + 2 * ones (mask_of (row_from budgets (i * m) m)) + length (records_from m lengths budgets (i + 1))
-records_length m lengths budgets i h =
-    let row = row_from budgets (i * m) m in
-    let bytes = interval_bytes (get_or lengths i 0) row in
+pub records_length : (p : Plan) (i : ℕ)
+    → i < length p.lengths
+    → length (records_from p i) ≡ 8 + 2 * ones (mask_of (get_or (rows p) i [])) + length (records_from p (i + 1))
+records_length p i h =
+    let row = get_or (rows p) i [] in
+    let bytes = interval_bytes (get_or p.lengths i 0) row in
     omega (
       arith,
-      ap length (records_from_lem m lengths budgets i h),
-      length-append bytes (records_from m lengths budgets (i + 1)),
-      interval_room (get_or lengths i 0) row,
+      ap length (records_from_lem p i h),
+      length-append bytes (records_from p (i + 1)),
+      interval_room (get_or p.lengths i 0) row,
       listed_count row,
     )
 

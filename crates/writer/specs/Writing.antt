@@ -1,24 +1,26 @@
--- The bytes of each record that the writer stores, and what its answers say in the paper's numbers.
-use Rattle.std.specs.Prelude.{List, [], ◌∷◌, ◌++◌, ℕ, take, drop}
-use Rattle.meaning.specs.Plan.{Workload, rows_of}
-use Rattle.meaning.specs.PlanFile.{two_bytes, interval_records}
+-- The bytes of each part and record that the writer stores, and what its answers say in the paper's numbers.
+use Rattle.std.specs.Prelude.{Result, Ok, Err, List, [], ◌∷◌, ◌++◌, ℕ, length}
+use Rattle.meaning.specs.Plan.{Plan, Workload, rows}
+use Rattle.meaning.specs.PlanFile.{Workloads, two_bytes, interval_records, workload_records}
 use Rattle.meaning.specs.Promises.{WriteFigures}
 use Rattle.units.specs.Refusals.{number_of}
-use Rattle.file_laws.specs.RecordBytes.{workload_bytes}
-use Rattle.writer.specs.declared.WriteAnswer.{WriteAnswer}
+use Rattle.units.specs.declared.Refusal.{Refusal}
+use Rattle.file_laws.specs.RecordBytes.{head_bytes, workload_bytes}
 
 -- the paper's number and values of each case
-abbrev pub write_figures : WriteAnswer → WriteFigures
-write_figures (WriteAnswer.Written n) = record { refused = 0; bytes = n }
-write_figures (WriteAnswer.Refused f) = record { refused = number_of f; bytes = 0 }
+abbrev pub write_figures : Result ℕ Refusal → WriteFigures
+write_figures (Ok n) = record { refused = 0; bytes = n }
+write_figures (Err f) = record { refused = number_of f; bytes = 0 }
 
--- the budgets of m cores from a start on
-abbrev pub row_from : List ℕ → ℕ → ℕ → List ℕ
-row_from budgets start m = take m (drop start budgets)
+-- the three parts of a file: its head, its intervals and its workloads
+abbrev pub head_part : Plan → List ℕ
+head_part p = head_bytes p.cores p.per_period (length p.lengths)
 
--- all interval records of a plan's lengths and budgets
-abbrev pub records_of : ℕ → List ℕ → List ℕ → List ℕ
-records_of m lengths budgets = interval_records lengths (rows_of m lengths budgets)
+abbrev pub intervals_part : Plan → List ℕ
+intervals_part p = interval_records p.lengths (rows p)
+
+abbrev pub workloads_part : Workloads → List ℕ
+workloads_part w = workload_records w.analysed w.computing w.requests w.horizons
 
 -- the start of a record: length of the body, kind, the body's first byte and a zero byte
 unfoldable pub start_bytes : ℕ → ℕ → ℕ → List ℕ

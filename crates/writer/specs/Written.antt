@@ -3,16 +3,15 @@ use Rattle.std.specs.Prelude.{◌≡◌, refl, true, false, List, ◌++◌, ℕ,
 use Rattle.std.proofs.Common.{ap, ◌∙◌, arith, length-append}
 use Rattle.std.proofs.lemmas.List.Edits.{sets}
 use borrow.Author.Tests.{lt-ltb, le-ltb}
-use Rattle.meaning.specs.Plan.{rows}
 use Rattle.meaning.specs.Refusals.{plan_refusal}
-use Rattle.meaning.specs.PlanFile.{PlanFile, Workloads, lists_wrong, interval_records, workload_records, file_of, write_refusal}
+use Rattle.meaning.specs.PlanFile.{PlanFile, lists_wrong, file_of, write_refusal}
 use Rattle.meaning.specs.Promises.{WritePromise}
 use Rattle.judge.specs.Judged.{refused_before}
-use Rattle.units.specs.Refusals.{some_number}
-use Rattle.units.specs.Refusals.{number_of}
+use Rattle.units.specs.Refusals.{some_number, number_of}
 use Rattle.units.specs.declared.Refusal.{Refusal}
 use Rattle.file_laws.specs.RecordBytes.{head_bytes}
 use Rattle.record.specs.Stores.{stored_then, sets_front}
+use Rattle.writer.specs.Writing.{head_part, intervals_part, workloads_part}
 use Rattle.writer.specs.Bytes.{workloads_length}
 
 module _ (f : PlanFile) (place : List ℕ) where
@@ -62,49 +61,39 @@ module _ (f : PlanFile) (place : List ℕ) where
             → WritePromise f place (record { refused = 0; bytes = length (file_of f) }) after
         file_written_lem room bytes = rw (none_refused room) (refl, bytes ∙ sets_front place (file_of f) room)
 
--- the three parts of a file: its head, its intervals and its workloads
-abbrev head_part : PlanFile → List ℕ
-head_part f = head_bytes f.plan.cores f.plan.per_period (length f.plan.lengths)
-
-abbrev intervals_part : PlanFile → List ℕ
-intervals_part f = interval_records f.plan.lengths (rows f.plan)
-
-abbrev workloads_part : Workloads → List ℕ
-workloads_part w = workload_records w.analysed w.computing w.requests w.horizons
-
 -- a file is these
-file_parts : (f : PlanFile) → head_part f ++ intervals_part f ++ workloads_part f.workloads ≡ file_of f
+file_parts : (f : PlanFile) → head_part f.plan ++ intervals_part f.plan ++ workloads_part f.workloads ≡ file_of f
 unfolding head_bytes file_of
 file_parts f = refl
 
 -- so is its length
 pub file_length : (f : PlanFile)
-    → length (file_of f) ≡ 10 + length (intervals_part f) + 16 * length f.workloads.analysed
+    → length (file_of f) ≡ 10 + length (intervals_part f.plan) + 16 * length f.workloads.analysed
 unfolding file_of
 file_length f =
     let w = f.workloads in
     omega (
       arith,
-      length-append (intervals_part f) (workloads_part w),
+      length-append (intervals_part f.plan) (workloads_part w),
       workloads_length w.analysed w.computing w.requests w.horizons,
     )
 
 -- a file is stored where its head, its intervals and its workloads are, one behind the other
 pub file_stored : (f : PlanFile) (place : List ℕ) (start : ℕ) {headed put last : List ℕ}
-    → headed ≡ sets place 0 (head_part f)
-    → put ≡ sets headed 10 (intervals_part f)
-    → start ≡ 10 + length (intervals_part f)
+    → headed ≡ sets place 0 (head_part f.plan)
+    → put ≡ sets headed 10 (intervals_part f.plan)
+    → start ≡ 10 + length (intervals_part f.plan)
     → last ≡ sets put start (workloads_part f.workloads)
     → last ≡ sets place 0 (file_of f)
 unfolding head_bytes
 file_stored f place start first second offset third =
-    let behind : start ≡ 0 + length (head_part f ++ intervals_part f) =
-    omega (arith, offset, length-append (head_part f) (intervals_part f)) in
+    let behind : start ≡ 0 + length (head_part f.plan ++ intervals_part f.plan) =
+    omega (arith, offset, length-append (head_part f.plan) (intervals_part f.plan)) in
     stored_then
-    (head_part f ++ intervals_part f)
+    (head_part f.plan ++ intervals_part f.plan)
     (workloads_part f.workloads)
     place
     0
-    (stored_then (head_part f) (intervals_part f) place 0 first second)
+    (stored_then (head_part f.plan) (intervals_part f.plan) place 0 first second)
     (rw behind at third)
     ∙ ap (sets place 0) (file_parts f)

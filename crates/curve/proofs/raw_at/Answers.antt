@@ -5,28 +5,18 @@ use Rattle.curve.proofs.raw_at.Goals as goal
 -- below the core's budget: the sum less the rate
 pub returns-then-rate-budget : goal.returns-then-rate-budget
 returns-then-rate-budget c =
-    let a = c.args in
     c.slots.ensures
-    ∙ (raw_of_sum a.per_period.0 a.core a.row.now a.rate.0 c.budget_of-budget.result.0 c.requires c.budget_of-budget.ensures.0
-    c.sum_of_smaller.result.0 c.if-rate-budget.true c.sum_of_smaller.ensures).1
+    ∙ (raw_of_sum c.requires c.budget_of-budget.ensures.0 c.if-rate-budget.true c.sum_of_smaller.ensures).1
 
 pub overflow_sub-sum_of_smaller : goal.overflow_sub-sum_of_smaller
 overflow_sub-sum_of_smaller c =
-    let a = c.args in
-    (raw_of_sum a.per_period.0 a.core a.row.now a.rate.0 c.budget_of-budget.result.0 c.requires c.budget_of-budget.ensures.0
-    c.sum_of_smaller.result.0 c.if-rate-budget.true c.sum_of_smaller.ensures).0
+    (raw_of_sum c.requires c.budget_of-budget.ensures.0 c.if-rate-budget.true c.sum_of_smaller.ensures).0
 
 -- from the core's budget on: the period less the budget's slots
 pub returns-else-rate-budget : goal.returns-else-rate-budget
 returns-else-rate-budget c =
-    let a = c.args in
-    rw c.slots-else-rate-budget.ensures
-    (raw_of_rest a.per_period.0 a.core a.row.now a.rate.0 c.budget_of-budget.result.0 c.requires c.budget_of-budget.ensures.0
-    c.if-rate-budget.false).1
+    rw c.slots-else-rate-budget.ensures (raw_of_rest c.requires c.budget_of-budget.ensures.0 c.if-rate-budget.false).1
 
 pub overflow_sub-result : goal.overflow_sub-result
 overflow_sub-result c =
-    let a = c.args in
-    rw c.slots-else-rate-budget.ensures
-    (raw_of_rest a.per_period.0 a.core a.row.now a.rate.0 c.budget_of-budget.result.0 c.requires c.budget_of-budget.ensures.0
-    c.if-rate-budget.false).0
+    rw c.slots-else-rate-budget.ensures (raw_of_rest c.requires c.budget_of-budget.ensures.0 c.if-rate-budget.false).0

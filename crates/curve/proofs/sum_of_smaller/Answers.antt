@@ -1,16 +1,25 @@
-use Rattle.std.proofs.Common.{arith}
+-- The library's sum of the smaller ones is the paper's.
+use Rattle.std.proofs.Common.{◌≡◌, ℕ, ◌<◌, ◌^◌, List, min, sum_by, refl, sym, ◌∙◌, arith, rules}
+use Rattle.std.proofs.lemmas.List.Recursion.{is_sum_by}
+use Rattle.meaning.specs.Curve.{sum_of_smaller}
 use Rattle.curve_laws.specs.RawStall.{smaller_le_sum}
-use Rattle.curve.specs.Rows.{smaller_from, smaller_past_end}
 use Rattle.curve.proofs.sum_of_smaller.Goals as goal
 
-pub overflow_add-sum : goal.overflow_add-sum
-overflow_add-sum c =
+-- one sum is the other
+same_sum : (r : ℕ) (row : List ℕ) → sum_of_smaller r row ≡ sum_by (λ b. min r b) row
+unfolding sum_of_smaller
+same_sum r row = is_sum_by (sum_of_smaller r) (λ b. min r b) refl (λ _ _. refl) row
+
+pub sum-requires-clause-fits : goal.sum-requires-clause-fits
+sum-requires-clause-fits c =
     let rate = c.args.rate.0 in
     let row = c.args.row.now in
-    omega (arith, smaller_from rate c.loop-i.i row c.loop-i-test.true, smaller_le_sum row rate)
-
-pub loop-i-preserved : goal.loop-i-preserved
-loop-i-preserved c = omega (arith, smaller_from c.args.rate.0 c.loop-i.i c.args.row.now c.loop-i-test.true)
+    let fits : sum_by (λ b. min rate b) row < 2 ^ 32 = omega (arith, same_sum rate row, smaller_le_sum row rate) in
+    search rules
 
 pub returns : goal.returns
-returns c = omega (arith, smaller_past_end c.args.rate.0 c.loop-i.i c.args.row.now c.loop-i-test.false)
+returns c =
+    let rate = c.args.rate.0 in
+    let row = c.args.row.now in
+    let h : c.sum.result ≡ sum_by (λ b. min rate b) row = search rules in
+    h ∙ sym (same_sum rate row)

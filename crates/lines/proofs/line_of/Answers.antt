@@ -1,23 +1,20 @@
-use Rattle.std.proofs.Common.{arith}
-use Rattle.lines.specs.Held.{lines_counted, found_file, found_refused, sound_held, refused_held}
+use Rattle.std.proofs.Common.{rules, arith}
+use Rattle.lines.specs.Held.{found_file, found_refused}
 use Rattle.lines.proofs.line_of.Goals as goal
 
-pub overflow_cast-offset : goal.overflow_cast-offset
-overflow_cast-offset c =
-    let read = rw c.in-Refused.is at c.requires.read_into in
-    omega (arith, (found_refused _ _ _ _ read).1)
-
 pub sound_line-requires-clause-held_in : goal.sound_line-requires-clause-held_in
-sound_line-requires-clause-held_in c =
-    let read = rw c.in-Sound.is at c.requires.read_into in
-    (found_file _ _ _ read).held
+sound_line-requires-clause-held_in c = (found_file _ _ _ (rw c.in-Ok.is at c.requires.read_into)).held
 
-pub returns-in-Refused : goal.returns-in-Refused
-returns-in-Refused c =
-    let read = rw c.in-Refused.is at c.requires.read_into in
-    refused_held _ _ _ _ _ _ _ _ read (omega (arith, lines_counted _ _ _ read)) c.requires.n_bound.2 c.file_refused_line.ensures
+pub overflow_cast-e : goal.overflow_cast-e
+overflow_cast-e c =
+    let refused = found_refused _ _ _ (rw c.in-Err.is at c.requires.read_into) in
+    omega (arith, refused.1)
 
-pub returns-in-Sound : goal.returns-in-Sound
-returns-in-Sound c =
-    let read = rw c.in-Sound.is at c.requires.read_into in
-    sound_held _ _ _ _ _ _ _ read c.sound_line.ensures
+pub returns-in-Ok : goal.returns-in-Ok
+returns-in-Ok c = rw (found_file _ _ _ (rw c.in-Ok.is at c.requires.read_into)).reads c.sound_line.ensures
+
+pub returns-in-Err : goal.returns-in-Err
+returns-in-Err c =
+    let refused = found_refused _ _ _ (rw c.in-Err.is at c.requires.read_into) in
+    let first = rw refused.0 at c.requires.n_bound.0 in
+    rw refused.0 (search rules)

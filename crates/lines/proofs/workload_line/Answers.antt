@@ -1,9 +1,8 @@
-use Rattle.units.specs.Given.{plan_of, workload_of}
-use Rattle.lines.specs.Answered.{span_line_lem}
+use Rattle.std.proofs.Common.{rules}
+use Rattle.lines.specs.Answered.{placed_whole}
 use Rattle.lines.proofs.workload_line.Goals as goal
 
-pub returns-in-Found : goal.returns-in-Found
-returns-in-Found c =
-    let a = c.args in
-    span_line_lem (plan_of a.head a.lengths.now a.budgets.now) (workload_of a.workload) a.number a.place.now _ a.line.now _ _
-    c.requires.0 c.requires.2 c.in-Found.span c.in-Found.stall c.in-Found.rounds c.requires.1 c.in-Found.ensures c.span_line.ensures
+pub returns-in-Ok : goal.returns-in-Ok
+returns-in-Ok c =
+    let answered = placed_whole _ _ _ _ _ c.requires.0 c.in-Ok.ensures in
+    (_, _, answered, search rules)

@@ -1,4 +1,3 @@
-use Rattle.std.proofs.Common.{zero-le}
 use Rattle.meaning.specs.Listing.{end_line}
 use Rattle.listing.specs.Finished.{put_line}
 use Rattle.listing.proofs.end_line.Goals as goal
@@ -6,4 +5,5 @@ use Rattle.listing.proofs.end_line.Goals as goal
 pub returns : goal.returns
 unfolding end_line
 returns c =
-    put_line c.if-line-lt-ROOM.false zero-le c.put_figure-at.ensures.put c.finish.ensures
+    let figure = rw c.from.ensures at c.put_figure-at.ensures.put in
+    put_line c.in_ok-room.ensures figure c.finish.ensures

@@ -10,4 +10,4 @@ returns c =
     let a = c.args in
     let first = found_text a.number a.span.0 a.stall.0 a.rounds in
     let text = put_figures {s = first} c.put_found-at.ensures.0 c.put_figures-at.ensures in
-    put_line c.if-line-lt-ROOM.false c.if-requests-gt-MOST_NUMBERS.false text c.finish.ensures
+    put_line c.in_ok-room.ensures text c.finish.ensures

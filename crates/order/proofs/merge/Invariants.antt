@@ -1,9 +1,9 @@
-use Rattle.std.proofs.Common.{◌-◌}
-use Rattle.order.specs.Merges.{Midway}
+use Rattle.std.proofs.Common.{◌+◌, length}
+use Rattle.order.specs.Merges.{Merging}
 use Rattle.order.proofs.merge.Given as goal
 
-abbrev pub invariant-loop-at : goal.invariant-loop-at
-invariant-loop-at l = Midway l.from l.initial.to l.to l.low l.middle l.high l.left l.right l.at
+abbrev pub invariant-loop-left : goal.invariant-loop-left
+invariant-loop-left l = Merging l.fn.to.items l.fn.left l.fn.right l.to.items l.left l.right
 
-abbrev pub decreases-loop-at : goal.decreases-loop-at
-decreases-loop-at l = l.high - l.at
+abbrev pub decreases-loop-left : goal.decreases-loop-left
+decreases-loop-left l = length l.left + length l.right

@@ -1,9 +1,10 @@
-use Rattle.std.proofs.Common.{◌-◌}
+use Rattle.std.proofs.Common.{length}
+use Rattle.segments.specs.Blocks.{curve_at}
 use Rattle.order.specs.Orders.{Sorting}
 use Rattle.order.proofs.order.Given as goal
 
-abbrev pub invariant-loop-width : goal.invariant-loop-width
-invariant-loop-width l = Sorting l.intervals l.starts l.width l.initial.picks l.picks l.spare
+abbrev pub invariant-loop-groups : goal.invariant-loop-groups
+invariant-loop-groups l = Sorting (length l.blocks) (curve_at l.blocks) l.groups.segments.items l.groups.counts.items
 
-abbrev pub decreases-loop-width : goal.decreases-loop-width
-decreases-loop-width l = l.intervals - l.width
+abbrev pub decreases-loop-groups : goal.decreases-loop-groups
+decreases-loop-groups l = length l.groups.counts.items

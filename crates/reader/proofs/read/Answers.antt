@@ -1,11 +1,12 @@
 use Rattle.std.proofs.Common.{sym, ◌∙◌, arith}
 use Rattle.file_laws.specs.SoundRecords.{sound_head}
+use Rattle.reader.specs.Reading.{places_of}
 use Rattle.reader.specs.Answering.{no_room_promise, sound_promise}
 use Rattle.reader.proofs.read.Goals as goal
 
 pub fits-requires : goal.fits-requires
 fits-requires c =
-    let file = c.in-Sound.ensures in
+    let file = c.in_ok-found.ensures in
     let head = sound_head _ file.headed.fault in (
       omega (arith, head.few_intervals, file.headed.intervals),
       omega (arith, head.few_cores, file.headed.values.cores),
@@ -13,25 +14,25 @@ fits-requires c =
 
 pub fill_intervals-start-requires-clause-cores_le_most_cores : goal.fill_intervals-start-requires-clause-cores_le_most_cores
 fill_intervals-start-requires-clause-cores_le_most_cores c =
-    let headed = c.in-Sound.ensures.headed in
+    let headed = c.in_ok-found.ensures.headed in
     (omega (arith, (sound_head _ headed.fault).few_cores, headed.values.cores), headed.values.cores)
 
-pub returns-then-fits : goal.returns-then-fits
-returns-then-fits c =
-    let found = c.in-Sound.ensures in
+pub returns : goal.returns
+returns c =
+    let found = c.in_ok-found.ensures in
     let stored = c.fill_intervals-start.ensures in
     -- the workloads start behind the intervals
     let start = rw found.headed.intervals at stored.value in
     sound_promise
-    _
-    _
-    c.in-Sound.found
+    c.args.file.now
+    (places_of c.args.lengths.now c.args.budgets.now c.args.analysed.now c.args.computing.now c.args.requests.now c.args.horizons.now)
+    c.in_ok-found.found
     found
-    _
-    (sym c.fits.ensures ∙ c.if-fits.true)
+    (places_of c.fill_intervals-start.new.lengths c.fill_intervals-start.new.budgets c.fill_workloads.new.analysed c.fill_workloads.new.computing c.fill_workloads.new.requests c.fill_workloads.new.horizons)
+    (sym c.fits.ensures ∙ c.if-not-fits.false)
     stored.lengths_after
     stored.budgets_after
     (rw start at c.fill_workloads.ensures)
 
-pub returns-else-fits : goal.returns-else-fits
-returns-else-fits c = no_room_promise _ _ c.in-Sound.found c.in-Sound.ensures (sym c.fits.ensures ∙ c.if-fits.false)
+pub returns-then-not-fits : goal.returns-then-not-fits
+returns-then-not-fits c = no_room_promise _ _ c.in_ok-found.found c.in_ok-found.ensures (sym c.fits.ensures ∙ c.if-not-fits.true)

@@ -1,9 +1,5 @@
-use Rattle.std.proofs.Common.{◌-◌, length}
 use Rattle.shares.specs.Part.{Passed}
 use Rattle.shares.proofs.begin_at.Given as goal
 
 abbrev pub invariant-loop-interval : goal.invariant-loop-interval
 invariant-loop-interval l = Passed l.start.0 l.lengths l.before l.interval
-
-abbrev pub decreases-loop-interval : goal.decreases-loop-interval
-decreases-loop-interval l = length l.lengths - l.interval

@@ -1,8 +1,5 @@
-use Rattle.span.specs.Prepared.{ParkedUntil}
+use Rattle.span.specs.Prepared.{ParkedUntil, LastParked}
 use Rattle.span.proofs.parked_until.Given as goal
 
-abbrev pub invariant-loop-last : goal.invariant-loop-last
-invariant-loop-last l = ParkedUntil l.intervals l.bases l.last
-
-abbrev pub decreases-loop-last : goal.decreases-loop-last
-decreases-loop-last l = l.last
+abbrev pub invariant-loop-i : goal.invariant-loop-i
+invariant-loop-i l = ParkedUntil l.i l.bases l.until × LastParked l.bases l.until

@@ -1,22 +1,17 @@
-use Rattle.std.proofs.Common.{◌≡◌, ℕ, ◌+◌, ◌-◌, ◌*◌, ◌<◌, List, [], length, get_or, take, drop, length-take, zero-le, le_trans, sym, subst, ◌∙◌, arith}
-use Rattle.std.proofs.Math.Nat.{add-sub_cancel_left, min-le_left}
+use Rattle.std.proofs.Common.{◌≡◌, ℕ, ◌+◌, ◌-◌, ◌≤◌, ◌<◌, List, [], length, get_or, take, length-take-le, get_or-take, sym, subst, ap, ◌∙◌, arith}
+use Rattle.std.proofs.lemmas.List.{get_or_default}
 use Rattle.meaning.specs.Plan.{Plan, rows}
-use Rattle.plan_laws.specs.SoundPlan.{row_at}
-use Rattle.curve.specs.Rows.{Interval}
+use Rattle.meaning.specs.Curve.{Concave, EnvelopeOf}
 use Rattle.curve.specs.Figures.{HoldsEnvelope}
 use Rattle.curve.specs.Found.{holds_base}
-use Rattle.units.specs.Given.{plan_of}
-use Rattle.units.specs.declared.Block.{Block}
-use Rattle.units.specs.declared.Head.{Head}
+use Rattle.segments.specs.Blocks.{curve_of, curve_at, no_block}
+use Rattle.order.specs.Groups.{Orders}
+use Rattle.units.specs.Given.{plan_of, no_corner, none_one}
+use Rattle.units.specs.declared.corner.Block.{Block}
+use Rattle.units.specs.declared.corner.Corner.{Corner}
 use Rattle.span.specs.Corners.{Cornered, Based, none_cornered, none_based, cornered_more, based_more, sound_interval, cornered_curves, cornered_idle, cornered_concave}
-use Rattle.span.specs.Prepared.{until_reads}
+use Rattle.span.specs.Prepared.{until_front, until_reads, last_front}
 use Rattle.span.proofs.prepare.Goals as goal
-
--- the part of the budgets that is lent is the interval's row
-row_here : (head : Head) (ls bs : List ℕ) (i : ℕ)
-    → i < length ls
-    → take (i * head.cores + head.cores - i * head.cores) (drop (i * head.cores) bs) ≡ get_or (rows (plan_of head ls bs)) i []
-row_here head ls bs i inside = rw add-sub_cancel_left (sym (row_at head.cores ls bs i inside))
 
 -- after the loop every interval has its block and its base
 all_done : (p : Plan) (core first n i : ℕ) (blocks : List Block) (bases : List ℕ)
@@ -25,58 +20,78 @@ all_done : (p : Plan) (core first n i : ℕ) (blocks : List Block) (bases : List
     → Cornered p core first n blocks × Based p core first n bases
 all_done p core first n i blocks bases done = subst (λ (k : ℕ). Cornered p core first k blocks × Based p core first k bases) done
 
+-- the blocks in front are the same
+front : (n i : ℕ) (blocks : List Block) → i < n → get_or (take n blocks) i no_block ≡ get_or blocks i no_block
+front n i blocks inside = get_or-take n blocks i no_block inside
+
 pub loop-i-init : goal.loop-i-init
 loop-i-init c =
-    let p = plan_of c.args.head c.args.lengths.now c.args.budgets.now in
-    (zero-le, none_cornered p c.args.core c.args.first (omega arith), none_based p c.args.core c.args.first)
+    let p = plan_of c.args.part in
+    (none_cornered p c.args.core c.args.first none_one (omega arith), none_based p c.args.core c.args.first)
 
 pub interval_corners-block-requires : goal.interval_corners-block-requires
 interval_corners-block-requires c =
-    let a = c.args in
-    subst (Interval a.head.per_period.0 a.core) (sym (row_here a.head a.lengths.now a.budgets.now c.loop-i.i c.loop-i-test.true))
-    (sound_interval (plan_of a.head a.lengths.now a.budgets.now) a.core c.requires.0 c.requires.1 c.loop-i.i c.loop-i-test.true)
+    rw c.row.ensures.row (sound_interval (plan_of c.args.part) c.args.core c.requires.0 c.requires.1 c.loop-i.i c.loop-i-test.true)
 
 pub loop-i-preserved : goal.loop-i-preserved
 loop-i-preserved c =
-    let a = c.args in
-    let p = plan_of a.head a.lengths.now a.budgets.now in
+    let part = c.args.part in
+    let p = plan_of part in
+    let core = c.args.core in
+    let first = c.args.first in
     let state = c.loop-i in
     let row = get_or (rows p) state.i [] in
     let block = c.interval_corners-block.result in
-    let few : a.first + state.i < 64 = omega arith in
-    let held : HoldsEnvelope a.head.per_period.0 a.core row block =
-    subst (λ (r : List ℕ). HoldsEnvelope a.head.per_period.0 a.core r block)
-    (row_here a.head a.lengths.now a.budgets.now state.i c.loop-i-test.true)
-    c.interval_corners-block.ensures in (
-      omega arith,
-      cornered_more p a.core a.first state.i _ block few held state.invariant.1,
-      based_more p a.core a.first state.i _ _ few (holds_base a.head.per_period.0 a.core row block held) state.invariant.2,
+    let few : first + state.i < 64 = omega arith in
+    let base = ap (λ (k : Corner). k.stall.0) (get_or_default block.corners 0 c.index-block-0.result no_corner (omega arith)) in
+    let held : HoldsEnvelope part.head.per_period.0 core row block = rw c.row.ensures.row at c.interval_corners-block.ensures in (
+      cornered_more p core first state.i _ block few held state.invariant.0,
+      based_more p core first state.i _ _ few (base ∙ holds_base part.head.per_period.0 core row block held) state.invariant.1,
     )
 
-pub order-ordered-requires : goal.order-ordered-requires
-order-ordered-requires c =
-    let a = c.args in
+pub order-segments-requires : goal.order-segments-requires
+order-segments-requires c =
+    let p = plan_of c.args.part in
+    let first = c.args.first in
     let state = c.loop-i in
-    let p = plan_of a.head a.lengths.now a.budgets.now in
-    let done = all_done p a.core a.first (length a.lengths.now) state.i _ _ (omega arith) (state.invariant.1, state.invariant.2) in
-    (c.requires.2, cornered_concave p a.core c.requires.0 c.requires.1 a.first _ done.0)
+    let n = first + length c.args.part.lengths.now in
+    let done = all_done p c.args.core first (length c.args.part.lengths.now) state.i _ _ (omega arith) state.invariant in
+    let long : length (take n state.curves) ≡ n = length-take-le n state.curves (omega (arith, done.0.long, c.requires.2)) in (
+      omega (arith, long, c.requires.2),
+      (λ i inside.
+          let here : i < n = omega (arith, inside, long) in
+          subst (λ (b : Block). Concave (curve_of b) × (b.count ≤ 9)) (sym (front n i state.curves here))
+          (cornered_concave p c.args.core c.requires.0 c.requires.1 first _ done.0 i here)),
+    )
 
 pub returns : goal.returns
 returns c =
-    let a = c.args in
+    let p = plan_of c.args.part in
+    let core = c.args.core in
+    let first = c.args.first in
     let state = c.loop-i in
-    let p = plan_of a.head a.lengths.now a.budgets.now in
-    let done = all_done p a.core a.first (length a.lengths.now) state.i _ _ (omega arith) (state.invariant.1, state.invariant.2) in
-    let r = c.parked_until-parked_until.result in
-    let until = c.parked_until-parked_until.ensures.0 in (
+    let n = first + length c.args.part.lengths.now in
+    let done = all_done p core first (length c.args.part.lengths.now) state.i _ _ (omega arith) state.invariant in
+    let long : length (take n state.curves) ≡ n = length-take-le n state.curves (omega (arith, done.0.long, c.requires.2)) in
+    let room : n ≤ length state.bases = omega (arith, done.1.long, c.requires.2) in
+    let r = c.parked_until-until.result in
+    let until = until_front n r state.bases room c.parked_until-until.ensures.0 in
+    let curve = curve_at (take n state.curves) in
+    let cut = c.truncate.ensures.items ∙ ap (take r) c.from-bases.ensures.0 in
+    rw cut (
       record {
-        curve = _;
-        curves = cornered_curves p a.core c.requires.0 c.requires.1 a.first _ done.0;
-        idle = cornered_idle p a.core c.requires.0 c.requires.1 a.first _ done.0;
-        orders = c.order-ordered.ensures;
-        each = λ i from h. until_reads (a.first + length a.lengths.now) r state.bases until i h ∙ done.1.each i h from;
-        few = rw length-take (le_trans (min-le_left r (length state.bases)) until.few);
+        curve = curve;
+        curves =
+            λ i from inside.
+            subst (λ (b : Block). EnvelopeOf p.per_period core (get_or (rows p) (i - first) []) (curve_of b)) (sym (front n i state.curves inside))
+            (cornered_curves p core c.requires.0 c.requires.1 first _ done.0 i from inside);
+        idle =
+            λ i before.
+            subst (λ (b : Block). Concave (curve_of b)) (sym (front n i state.curves (omega (arith, before))))
+            (cornered_idle p core c.requires.0 c.requires.1 first _ done.0 i before);
+        orders = subst (λ (m : ℕ). Orders m curve c.order-segments.result.items) long c.order-segments.ensures;
+        each = λ i from h. until_reads n r state.bases until i h ∙ done.1.each i h from;
+        few = omega (arith, until.few, length-take-le r state.bases (omega (arith, until.few, room)));
       },
-      omega (arith, until.few, done.1.long),
-      c.parked_until-parked_until.ensures.1,
+      last_front n r state.bases room until.few c.parked_until-until.ensures.1,
     )

@@ -4,10 +4,10 @@ use Rattle.stall.proofs.base_stall.Goals as goal
 
 pub loop-i-preserved : goal.loop-i-preserved
 loop-i-preserved c =
-    let share = c.wide.ensures in
-    let base = c.wide-in-loop-i.ensures in
-    rw (share.0, base.0)
-    (summed_more c.loop-i.invariant c.loop-i-test.true (rw share.0 at share.1) (rw base.0 at base.1))
+    let at = c.loop-i in
+    rw (c.from.ensures, c.from-in-loop-i.ensures)
+    (summed_more at.invariant c.loop-i-test.true (omega (arith, c.type_inv.shares)) (omega (arith, c.type_inv.bases at.i)))
 
 pub returns : goal.returns
-returns c = (summed_all c.loop-i.invariant c.loop-i-test.false, omega arith)
+returns c =
+    (summed_all c.loop-i.invariant c.loop-i-test.false, omega (arith, c.loop-i.invariant.bound, c.loop-i.invariant.inside, c.requires))

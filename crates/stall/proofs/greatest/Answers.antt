@@ -1,55 +1,48 @@
-use Rattle.std.proofs.Common.{◌≡◌, ◌≤◌, ◌<◌, ◌+◌, ℕ, List, get_or, refl, sym, ap, ◌∙◌, arith}
-use Rattle.std.proofs.Math.Nat.{mul-le-mul}
+use Rattle.std.proofs.Common.{◌∙◌, ◌+◌, ℕ, sym, ap, arith, drop_of_length-le}
 use Rattle.units.specs.Units.{slots_of}
-use Rattle.placement_laws.specs.Filling.{Pick}
-use Rattle.segments.specs.Packed.{pick_of, between, Runs}
-use Rattle.stall.specs.Walks.{every_at, part_fits, walked_more, walked_stop, walked_all}
+use Rattle.segments.specs.Picks.{picks_of, next_pick}
+use Rattle.stall.specs.Walks.{part_fits, walked_none, walked_more, walked_stop, walked_all}
 use Rattle.stall.proofs.greatest.Goals as goal
 
--- the next run is at least 1
-some_run : (picks : List ℕ) (count k : ℕ) (run : ℕ)
-    → Runs (between 0 count picks)
-    → k < count
-    → run ≡ (pick_of (get_or picks k 0)).run
-    → 1 ≤ run
-some_run picks count k run all inside is = rw is (every_at (λ (s : Pick). 1 ≤ s.run) picks count k all inside)
+pub loop-segment-init : goal.loop-segment-init
+loop-segment-init c =
+    let p = c.args.prepared.now in
+    let base = rw c.deref.ensures.0 at c.base_stall-whole.ensures in
+    rw c.as_slice-segment-items.ensures.value (walked_none (picks_of p.segments.items) p.runs (omega arith) base.0 base.1)
 
 pub part-requires : goal.part-requires
-part-requires c = some_run _ _ _ _ c.requires.1 c.loop-k-test.true c.run_of-run.ensures.0
+part-requires c =
+    let s = c.segment-item in
+    let here = rw (next_pick _ c.loop-segment.segment-index s.result c.loop-segment-test.true s.is) at c.loop-segment.invariant in
+    here.runs.0
 
 pub overflow_add-whole : goal.overflow_add-whole
 overflow_add-whole c =
-    let positive = some_run _ _ _ _ c.requires.1 c.loop-k-test.true c.run_of-run.ensures.0 in
-    let most = part_fits _ c.loop-k.left c.rise_of-rise.result.0 _ positive c.if-left-room.true in
-    omega (arith, c.part.ensures, most, mul-le-mul c.share_of-share.ensures.1 c.rise_of-rise.ensures.1)
+    let s = c.segment-item in
+    let here = rw (next_pick _ c.loop-segment.segment-index s.result c.loop-segment-test.true s.is) at c.loop-segment.invariant in
+    let fits = rw (c.from.ensures, c.room-room.ensures.0) at c.if-from-room.true in
+    let most = part_fits c.share_of-share.result c.loop-segment.left s.result.rise.0 s.result.run.0 here.runs.0 fits in
+    omega (arith, c.part.ensures, most, here.bound, c.risen-risen.ensures)
 
-pub returns-then-left-room : goal.returns-then-left-room
-returns-then-left-room c =
-    let share = c.share_of-share.ensures.0 in
-    let runs = c.run_of-run.ensures.0 in
-    let stop =
-    walked_stop c.loop-k.invariant.0
-    c.loop-k-test.true
-    (some_run _ _ _ _ c.requires.1 c.loop-k-test.true refl)
-    (rw (share, runs) at c.if-left-room.true) in
+pub returns-then-from-room : goal.returns-then-from-room
+returns-then-from-room c =
+    let s = c.segment-item in
+    let here = rw (next_pick _ c.loop-segment.segment-index s.result c.loop-segment-test.true s.is) at c.loop-segment.invariant in
+    let stop = walked_stop here (rw (c.from.ensures, c.room-room.ensures.0, c.share_of-share.ensures) at c.if-from-room.true) in
     c.checked.ensures
-    ∙ ap slots_of
-    (rw (c.rise_of-rise.ensures.0, runs) at (ap (λ (n : ℕ). c.loop-k.whole + n) c.part.ensures)
-    ∙ sym stop)
+    ∙ ap slots_of (ap (λ (n : ℕ). c.loop-segment.whole + n) c.part.ensures ∙ sym stop)
 
-pub loop-k-preserved : goal.loop-k-preserved
-loop-k-preserved c =
-    let rises = c.rise_of-rise.ensures in
+pub loop-segment-preserved : goal.loop-segment-preserved
+loop-segment-preserved c =
+    let s = c.segment-item in
     let share = c.share_of-share.ensures in
-    let runs = c.run_of-run.ensures.0 in (
-      rw (share.0, rises.0, runs)
-          (walked_more c.loop-k.invariant.0
-          c.loop-k-test.true
-          (rw share.0 at share.1)
-          (rw rises.0 at rises.1)
-          (rw (share.0, runs) at c.if-left-room.false)),
-      c.loop-k.invariant.1,
-    )
+    let room = c.room-room.ensures.0 in
+    let here = rw (next_pick _ c.loop-segment.segment-index s.result c.loop-segment-test.true s.is) at c.loop-segment.invariant in
+    rw (room, c.risen-risen.ensures.0, share)
+    (walked_more here (rw (c.risen-risen.ensures.0, share) at c.risen-risen.ensures.1) (rw (c.from.ensures, room, share) at c.if-from-room.false))
 
 pub returns : goal.returns
-returns c = c.checked-2.ensures ∙ ap slots_of (sym (walked_all c.loop-k.invariant.0 c.loop-k-test.false))
+returns c =
+    let at = c.loop-segment in
+    let done = rw (drop_of_length-le c.as_slice-segment-items.result.now {i = at.segment-index} (omega arith)) at at.invariant in
+    c.checked-2.ensures ∙ ap slots_of (sym (walked_all done))

@@ -1,11 +1,18 @@
-use Rattle.std.proofs.Common.{◌-◌, ◌≤◌, length}
+use Rattle.std.proofs.Common.{length, drop}
+use Rattle.segments.specs.Picks.{picks_of}
 use Rattle.stall.specs.Walks.{number_at, Walked}
 use Rattle.stall.proofs.greatest.Given as goal
 
-abbrev pub invariant-loop-k : goal.invariant-loop-k
-invariant-loop-k l =
-    Walked (number_at l.shares) (number_at l.bases) (length l.bases) l.picks l.count l.initial.left l.whole l.left l.k
-    × (l.initial.left ≤ 4_294_967_295)
-
-abbrev pub decreases-loop-k : goal.decreases-loop-k
-decreases-loop-k l = l.count - l.k
+abbrev pub invariant-loop-segment : goal.invariant-loop-segment
+invariant-loop-segment l =
+    let p = l.prepared in
+    Walked
+    (number_at l.shares)
+    (number_at p.bases.items)
+    (length p.bases.items)
+    (picks_of p.segments.items)
+    l.initial.left
+    l.whole
+    l.left
+    l.segment-index
+    (picks_of (drop l.segment-index l.segment-items))

@@ -1,12 +1,17 @@
-use Rattle.std.proofs.Common.{◌-◌, ◌≤◌}
+use Rattle.std.proofs.Common.{drop}
+use Rattle.segments.specs.Picks.{picks_of}
 use Rattle.stall.specs.Walks.{number_at}
 use Rattle.stall.specs.Fills.{Filling}
 use Rattle.stall.proofs.place.Given as goal
 
-abbrev pub invariant-loop-k : goal.invariant-loop-k
-invariant-loop-k l =
-    Filling (number_at l.shares) l.picks l.count l.initial.left l.intervals l.initial.placement l.placement l.left l.k
-    × (l.initial.left ≤ 4_294_967_295)
-
-abbrev pub decreases-loop-k : goal.decreases-loop-k
-decreases-loop-k l = l.count - l.k
+abbrev pub invariant-loop-segment : goal.invariant-loop-segment
+invariant-loop-segment l =
+    Filling
+    (number_at l.shares)
+    (picks_of l.segments)
+    l.initial.left
+    l.intervals
+    l.fn.placement
+    l.placement
+    l.left
+    (picks_of (drop l.segment-index l.segments))

@@ -1,11 +1,8 @@
-use Rattle.std.proofs.Common.{length, take, ◌*◌, ◌+◌, ◌-◌, ◌≤◌}
+use Rattle.std.proofs.Common.{take, ◌*◌, ◌+◌, ◌≤◌}
 use Rattle.meaning.specs.Listing.{spaced}
 use Rattle.text.specs.Put.{Put}
 use Rattle.text.proofs.put_numbers.Given as goal
 
-abbrev pub invariant-loop-listed : goal.invariant-loop-listed
-invariant-loop-listed l =
-    (l.listed ≤ length l.numbers) × Put (spaced (take l.listed l.numbers)) l.at l.initial.line l.after l.line × (l.after ≤ l.at + 11 * l.listed)
-
-abbrev pub decreases-loop-listed : goal.decreases-loop-listed
-decreases-loop-listed l = length l.numbers - l.listed
+abbrev pub invariant-loop-number : goal.invariant-loop-number
+invariant-loop-number l =
+    Put (spaced (take l.number-index l.numbers)) l.at l.initial.line l.after l.line × (l.after ≤ l.at + 11 * l.number-index)

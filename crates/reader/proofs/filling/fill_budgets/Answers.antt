@@ -1,15 +1,9 @@
-use Rattle.std.proofs.Common.{arith, rules}
-use Rattle.meaning.specs.PlanFile.{tabulate, budget_at}
-use Rattle.reader.specs.Filling.{table_more}
+use Rattle.std.proofs.Common.{length, arith}
+use Rattle.meaning.specs.PlanFile.{budget_at}
+use Rattle.reader.specs.Filling.{table_of}
 use Rattle.reader.proofs.filling.fill_budgets.Goals as goal
 
-pub loop-core-init : goal.loop-core-init
-unfolding tabulate
-loop-core-init c = search rules
-
-pub loop-core-preserved : goal.loop-core-preserved
-loop-core-preserved c =
+pub returns : goal.returns
+returns c =
     let at = c.loop-core in
-    let a = c.args in
-    let more = table_more a.budgets.now a.start (budget_at a.file.now a.at) at.core at.invariant.1 in
-    (omega arith, rw c.budget_at.ensures more)
+    table_of (budget_at c.args.interval.record.file.now c.args.interval.record.at) (length c.args.row.now) at.row (omega arith) (λ k h. at.invariant k (omega arith))

@@ -1,9 +1,5 @@
-use Rattle.std.proofs.Common.{◌-◌}
 use Rattle.reader.specs.Passing.{ReadTo}
 use Rattle.reader.proofs.passing.pass_intervals.Given as goal
 
 abbrev pub invariant-loop-i : goal.invariant-loop-i
-invariant-loop-i l = ReadTo l.file l.intervals l.at l.passed.0 l.i
-
-abbrev pub decreases-loop-i : goal.decreases-loop-i
-decreases-loop-i l = l.intervals - l.i
+invariant-loop-i l = ReadTo l.file l.intervals l.at l.passed.0 l._i

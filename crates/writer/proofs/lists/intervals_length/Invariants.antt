@@ -1,12 +1,10 @@
-use Rattle.std.proofs.Common.{◌≡◌, ◌+◌, ◌-◌, ◌*◌, ◌≤◌, length}
+use Rattle.std.proofs.Common.{◌≡◌, ◌+◌, ◌*◌, ◌≤◌, length}
+use Rattle.units.specs.Given.{plan_of}
+use Rattle.writer.specs.Writing.{intervals_part}
 use Rattle.writer.specs.Bytes.{records_from}
 use Rattle.writer.proofs.lists.intervals_length.Given as goal
 
 abbrev pub invariant-loop-i : goal.invariant-loop-i
 invariant-loop-i l =
-    (l.i ≤ length l.lengths)
-    × (l.bytes + length (records_from l.cores l.lengths l.budgets l.i) ≡ length (records_from l.cores l.lengths l.budgets 0))
-    × (l.bytes ≤ 24 * l.i)
-
-abbrev pub decreases-loop-i : goal.decreases-loop-i
-decreases-loop-i l = length l.lengths - l.i
+    let p = plan_of l.plan in
+    (l.bytes + length (records_from p l.i) ≡ length (intervals_part p)) × (l.bytes ≤ 24 * l.i)

@@ -1,30 +1,15 @@
-use Rattle.std.proofs.Common.{◌++◌, arith}
+use Rattle.std.proofs.Common.{◌++◌}
 use Rattle.meaning.specs.PlanFile.{two_bytes, listed_of}
 use Rattle.record.specs.Stores.{stored_then}
-use Rattle.writer.specs.Writing.{row_from, start_bytes}
-use Rattle.writer.specs.Bytes.{interval_room, interval_parts}
+use Rattle.writer.specs.Writing.{start_bytes}
+use Rattle.writer.specs.Bytes.{interval_parts}
 use Rattle.writer.proofs.storing.put_interval.Goals as goal
-
--- there is room for the record
-pub put_start-requires : goal.put_start-requires
-put_start-requires c = omega (arith, interval_room c.args.periods.0 (row_from c.args.budgets.now c.args.start c.args.cores))
-
-pub put_two-requires : goal.put_two-requires
-put_two-requires c = omega (arith, interval_room c.args.periods.0 (row_from c.args.budgets.now c.args.start c.args.cores))
-
-pub put_budgets-requires-clause-room : goal.put_budgets-requires-clause-room
-put_budgets-requires-clause-room c =
-    omega (arith, interval_room c.args.periods.0 (row_from c.args.budgets.now c.args.start c.args.cores))
-
-pub returns-clause-value : goal.returns-clause-value
-returns-clause-value c =
-    omega (arith, interval_room c.args.periods.0 (row_from c.args.budgets.now c.args.start c.args.cores))
 
 pub returns-clause-place_after : goal.returns-clause-place_after
 unfolding start_bytes
 returns-clause-place_after c =
     let a = c.args in
-    let row = row_from a.budgets.now a.start a.cores in
+    let row = a.row.now in
     let place = a.place.now in
     let first = start_bytes c.body_length.result 2 c.mask_of-mask.result in
     let periods = two_bytes a.periods.0 in
