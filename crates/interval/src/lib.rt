@@ -1,4 +1,5 @@
-// The two questions on one interval: its raw stall at r requests, and the corners of its curve.
+// The two questions on one interval: its raw stall at r requests, and the corners of its curve. Head, budgets and core are not one value: a
+// plan has lengths beside them, and these questions have none.
 #![tactic(auto)]
 
 ghost use Rattle.std.specs.Prelude.{◌≤◌};

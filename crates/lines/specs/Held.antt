@@ -1,9 +1,9 @@
 -- What is known of a file that was read into places for the longest one, and which line its listing has at a number.
 use Rattle.std.specs.Prelude.{◌≡◌, refl, Option, Result, Ok, Err, true, List, ℕ, zero, suc, ◌-◌, ◌*◌, ◌≤◌, length, get_or, take, drop}
-use Rattle.std.proofs.Common.{sym, ap, ap₂, ◌∙◌, inl, mul-le-mul, not-suc-le-zero, arith, length-append, length-take-le, get_or-take}
+use Rattle.std.proofs.Common.{sym, ap, ap₂, subst, ◌∙◌, inl, mul-le-mul, not-suc-le-zero, arith, length-append, length-take-le, get_or-take}
 use Rattle.std.proofs.lemmas.Bool.Decides.{nat_tests}
 use Rattle.meaning.specs.Plan.{Workload, most_cores, most_intervals, most_workloads}
-use Rattle.meaning.specs.PlanFile.{Reading, PlanFile, read_file}
+use Rattle.meaning.specs.PlanFile.{Reading, PlanFile, RightLists, read_file}
 use Rattle.meaning.specs.Promises.{Places, ReadFigures, ReadingPromise, ReadPromise, fits, file_held, written}
 use Rattle.meaning.specs.Listing.{answer_line, workload_at, LineOf}
 use Rattle.plan_laws.specs.SoundPlan.{sound_plan}
@@ -46,11 +46,13 @@ LineGiven r n before built after = (text : List ℕ) × LineOf r n text × LineP
 abbrev pub held_file : Contents → Places → PlanFile
 held_file c places = file_held (read_figures (Ok c)) places
 
--- the places hold a sound file's values: the counts are within the limits and within the places
+-- the places hold a sound file's values: its counts are within the limits and within the places, and the lists are right
 pub record HeldIn (c : Contents) (places : Places) : Type 0 where
   pub intervals : c.intervals ≤ most_intervals
+  pub cores : c.head.cores ≤ most_cores
   pub workloads : c.workloads ≤ most_workloads
   pub room : Room c places
+  pub lists : RightLists (held_file c places).workloads
 
 -- what a sound file holds fits places of these sizes
 sized_fits : (s : List ℕ) (f : PlanFile) (places : Places)
@@ -69,7 +71,7 @@ sized_fits s f places e sized =
 within_written : {n : ℕ} (xs place : List ℕ) → length xs ≡ n → n ≤ length (written xs place)
 within_written xs place e = omega (arith, e, length-append xs (drop (length xs) place))
 
--- what is known of an accepted file once it was read: it reads as what the places hold
+-- what is known of an accepted file once it was read: it reads as what the places hold, which lies within them
 pub record FoundFile (s : List ℕ) (c : Contents) (after : Places) : Type 0 where
   pub reads : read_file s ≡ Reading.sound (held_file c after)
   pub held : HeldIn c after
@@ -94,6 +96,7 @@ found_file s after c read =
       held =
           record {
             intervals = omega (arith, intervals, plan.few_intervals);
+            cores = omega (arith, cores, plan.few_cores);
             workloads = omega (arith, workloads, lists.few);
             room =
                 rw given.filled
@@ -105,6 +108,7 @@ found_file s after c read =
                   requests = within_written f.workloads.requests places.requests (lists.requests ∙ workloads);
                   horizons = within_written f.workloads.horizons places.horizons (lists.horizons ∙ workloads);
                 });
+            lists = subst (λ (g : PlanFile). RightLists g.workloads) (sym held) lists;
           };
     }
 

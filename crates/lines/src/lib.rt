@@ -61,11 +61,12 @@ fn sound_line(n: u16, found: Contents, places: Places, line: &mut [u8]) -> Optio
         return listing::end_line(n - 1, line);
     }
     let workload = workload_in(places.workloads, number - 1);
+    // 64 intervals at most: there is no heap.
     let mut place = [0u32; 64];
     workload_line(n, plan, workload, &mut place[..intervals], line)
 }
 
-// How many lines the listing of a file has, which was read with this answer.
+// How many lines the listing of a file has, which was read with this answer; file and answer come one by one, since `spans` has them so.
 pub fn lines_in(file: &[u8], answer: Result<Contents, FileRefusal>) -> u16
     requires { ReadAs file.now answer }
     ensures { result ≡ line_count (read_file file.now) }
@@ -91,6 +92,6 @@ pub fn line_of(
 {
     match answer {
         Ok(found) => sound_line(n, found, places, line),
-        Err(e) => listing::file_refused_line(e.refusal, e.offset as u32, line),
+        Err(fault) => listing::file_refused_line(fault.refusal, fault.offset as u32, line),
     }
 }

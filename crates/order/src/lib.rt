@@ -15,7 +15,7 @@ use units::Block;
 fn not_flatter(first: Segment, second: Segment) -> bool
     ensures { result ≡ not_steeper (pick_of first) (pick_of second) }
 {
-    crossed(second.rise, first.run) <= crossed(first.rise, second.run)
+    crossed(second.rise(), first.run()) <= crossed(first.rise(), second.run())
 }
 
 // Appends segments in their own order. (By a loop: the list's own `try_extend_from_slice` gives a Result, which would have to be dropped.)

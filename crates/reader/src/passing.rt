@@ -30,7 +30,6 @@ fn pass_workloads(
 {
     let mut at = start;
     let mut count: u16 = 0;
-    // No loop over a count: the file's end ends it, and each record says where the next begins.
     while at < file.len() {
         let record = Record { file, at };
         at_offset(record.workload_fault(count == Workload::MOST), at)?;

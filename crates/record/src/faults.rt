@@ -1,4 +1,5 @@
-// What a record of a plan file is refused for.
+// What a record of a plan file is refused for. That the cores are at most eight is asked for where it is needed: the head carries the number,
+// and a type for it would stand beside the head and say it twice.
 ghost use Rattle.std.specs.Prelude.{◌≡◌, false, ◌+◌, ◌*◌, ◌≤◌, length};
 ghost use Rattle.meaning.specs.Plan.{sum_of, most_cores};
 ghost use Rattle.meaning.specs.PlanFile.{row_at, listed_zero, head_fault, workload_fault};

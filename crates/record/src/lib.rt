@@ -32,10 +32,10 @@ impl Kind {
     // The bytes of a workload's body.
     pub const WORKLOAD_BODY: u16 = 12;
 
-    // The bytes of a whole head: the body's length, the kind, the body.
+    // The bytes of a whole head: the body's length, the kind, the body. By `as`, since `From` is not const.
     pub const HEAD_BYTES: usize = 4 + Kind::HEAD_BODY as usize;
 
-    // The bytes of a whole workload record.
+    // The bytes of a whole workload record, by `as` too.
     pub const WORKLOAD_BYTES: usize = 4 + Kind::WORKLOAD_BODY as usize;
 
     // The number in the file.

@@ -39,7 +39,8 @@ fn next_term(terms: Terms, shares: &[u16; 64]) -> Option<Periods>
     term_for(terms, stall)
 }
 
-// The search over the terms from a beginning in the plan, a loop that yields by break as document 01 names it: it ends at the first term equal to the one before it, or past the horizon.
+// The search over the terms from a beginning in the plan, a loop that yields by break as document 01 names it: it ends at the first term equal
+// to the one before it, or past the horizon.
 pub fn search(terms: Terms, begin: Beginning, lengths: &[u16]) -> Result<Met, Refusal>
     requires { Begins lengths.now begin × (length lengths.now ≤ most_intervals) × TermsClimb terms (shares_given begin.repeating lengths.now begin.start.0) }
     ensures { Searched terms.entry (shares_given begin.repeating lengths.now begin.start.0) result }

@@ -8,7 +8,7 @@ use Rattle.segments.specs.declared.segment.Segment.{Segment}
 
 -- the segment of the definitions that a segment gives
 abbrev pub pick_of : Segment → Pick
-pick_of s = record { interval = s.interval; run = s.run.0; rise = s.rise.0 }
+pick_of s = record { interval = s.interval; run = s.run; rise = s.rise }
 
 -- those of a list
 abbrev pub picks_of : List Segment → List Pick

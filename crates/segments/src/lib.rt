@@ -40,12 +40,12 @@ fn push_interval(interval: u8, block: &Block, segments: &mut Segments)
     ensures pushed { let c = curve_of block.now in picks_of segments.new.items ≡ picks_of segments.old.items ++ picks_from interval c.first c.rest }
     ensures few { length segments.new.items ≤ length segments.old.items + 8 }
 {
-    // By index: the proof does not know the length of an array behind a reference, which `windows(2)` of its slice needs.
+    // By index: `windows(2)` gives `pair[0]` and `pair[1]` for `here` and `next`, no plainer, and its proof has to follow the iterator.
     let mut here = block.corners[0];
     for k in 1..usize::from(block.count) {
         let next = block.corners[k];
-        let run = Requests(next.rate.0 - here.rate.0);
-        let rise = Slots(next.stall.0 - here.stall.0);
+        let run = (next.rate.0 - here.rate.0) as u16;
+        let rise = (next.stall.0 - here.stall.0) as u16;
         segments.push(Segment {
             interval,
             run,

@@ -43,7 +43,8 @@ pub fn begin_at(repeating: bool, cycle: Periods, lengths: &[u16], start: Periods
 
 // The given shares, and added to them those of `full` cycles and of `periods` periods of one more, over a part of a plan: `lengths` are those
 // of its intervals, the first of which has number `interval` in the plan and is `left` periods long. The whole plan is the part from its
-// first interval, with that one's own length. Of the one more an interval gets its own length, or what those before it leave.
+// first interval, with that one's own length. Of the last, part cycle an interval gets its own length,
+// or what those before it leave. Arrays for 64 intervals: there is no heap.
 fn with_part(
     mut shares: [u16; 64],
     interval: usize,

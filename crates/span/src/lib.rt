@@ -54,6 +54,7 @@ fn prepare(part: Plan, core: u8, first: usize) -> Prepared
     ensures { PreparedPart (plan_of part.entry) core first result.segments.items result.bases.items × LastParked result.bases.items (length result.bases.items) }
 {
     let intervals = first + part.lengths.len();
+    // 64 intervals at most, by value as document 01 names it: there is no heap.
     let mut curves = [Block::EMPTY; 64];
     let mut bases = [0u16; 64];
     for i in 0..part.lengths.len() {

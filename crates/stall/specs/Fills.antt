@@ -119,12 +119,6 @@ module _ {share : ℕ → ℕ} {o : List Pick} {requests n : ℕ} {before after 
   abbrev stored : ℕ → List ℕ
   stored c = set after next.interval (get_or after next.interval 0 + c)
 
-  -- there is room for so many of those that are left
-  pub filling_fits : (c : ℕ) → c ≤ left → (next.interval < length after) × (get_or after next.interval 0 + c ≤ 4_294_967_295)
-  filling_fits c most =
-      let here = now.inside.0 in
-      (lt_of_lt_of_le here now.fits, omega (arith, now.room next.interval here, now.low))
-
   -- no interval gets more than all requests
   room_stored : (c : ℕ) → c ≤ left → (j : ℕ) → j < n → get_or (stored c) j 0 + (left - c) ≤ requests
   room_stored c most j h =

@@ -57,7 +57,7 @@ pub fn greatest(prepared: &Prepared, shares: &[u16; 64], requests: Requests) -> 
         let room = segment.room(share);
         let risen = segment.risen(share);
         if u64::from(left) <= room {
-            return Slots::checked(whole + part(Requests(left), segment.rise, segment.run));
+            return Slots::checked(whole + part(Requests(left), segment.rise(), segment.run()));
         }
         whole += risen;
         left -= room as u32;

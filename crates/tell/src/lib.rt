@@ -38,7 +38,7 @@ pub fn tell_refused(refusal: Refusal) {
     say(format_args!(" refused {}\n", refusal.number()));
 }
 
-// The most intervals that a plan has.
+// The most intervals that a plan has; by `as`, since `From` is not const.
 const MOST: usize = Head::MOST_INTERVALS as usize;
 
 // Room for a placement on any plan. A place left as it was would show a 9.

@@ -26,7 +26,8 @@ fn digits(number: u32) -> usize
     number.max(1).ilog10() as usize + 1
 }
 
-// A number in decimal, from an index on; the index after it. The last digit is written first.
+// A number in decimal, from an index on; the index after it. The last digit is written first; by hand, since `write!` wants a writer and what
+// is lent is a place of bytes, of which the rest is kept.
 pub fn put_number(line: &mut [u8], at: usize, number: u32) -> usize
     requires { at + 10 ≤ length line.old }
     ensures { Put (decimal number) at line.old result line.new × (result ≤ at + 10) }

@@ -1,4 +1,5 @@
-// Numbers out of a record's body, the low byte first. Past the body's end there are zeros.
+// Numbers out of a record's body, the low byte first. Past the body's end there are zeros. Body and index come one by one, as a slice and its
+// index do.
 ghost use Rattle.std.specs.Prelude.{◌≡◌, ℕ, ◌<◌, ◌≤◌, ◌↔◌, IsTrue, ◌-◌, ◌/◌, ◌%◌, min, length, List, EachIndex, drop, slice_index};
 ghost use Rattle.std.specs.Int.{w8, w16, w32, from_le_bytes};
 ghost use Rattle.std.proofs.Common.{rules};

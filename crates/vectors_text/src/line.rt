@@ -23,8 +23,8 @@ fn write_numbers<T: Display>(line: &mut Line, numbers: &[T]) -> fmt::Result
     Ok(())
 }
 
-// The start of an answer: its word, the refusal's number or 0, and the results.
-fn write_start(line: &mut Line, word: &str, refusal: u8, results: &[usize]) -> fmt::Result
+// The start of an answer: its word, the refusal's number or 0, and the results. It is a number here, since `put_start` takes one.
+pub fn write_start(line: &mut Line, word: &str, refusal: u8, results: &[usize]) -> fmt::Result
     ensures { OnOk result
         (line.new.bytes ≡ line.old.bytes ++ word.now ++ spaced decimal (refusal ∷ results.now)) }
 {
@@ -33,7 +33,12 @@ fn write_start(line: &mut Line, word: &str, refusal: u8, results: &[usize]) -> f
 }
 
 // The start of a refused answer, with what stands in the place of the results.
-fn write_refused(line: &mut Line, word: &str, refusal: Refusal, results: &[usize]) -> fmt::Result
+pub fn write_refused(
+    line: &mut Line,
+    word: &str,
+    refusal: Refusal,
+    results: &[usize],
+) -> fmt::Result
     ensures { OnOk result
         (line.new.bytes ≡ line.old.bytes ++ word.now ++ spaced decimal (number_of refusal ∷ results.now)) }
 {
@@ -41,7 +46,7 @@ fn write_refused(line: &mut Line, word: &str, refusal: Refusal, results: &[usize
 }
 
 // A lent place of numbers, all of it.
-fn write_place<T: Display>(line: &mut Line, place: &[T]) -> fmt::Result
+pub fn write_place<T: Display>(line: &mut Line, place: &[T]) -> fmt::Result
     ensures { (text : T → List ℕ) → Prints T.output text
         → OnOk result (line.new.bytes ≡ line.old.bytes ++ codes " :" ++ spaced text place.now) }
 {
@@ -50,13 +55,13 @@ fn write_place<T: Display>(line: &mut Line, place: &[T]) -> fmt::Result
 }
 
 // The answer to a record that is no question.
-fn write_malformed(line: &mut Line) -> fmt::Result
+pub fn write_malformed(line: &mut Line) -> fmt::Result
     ensures { OnOk result (line.new.bytes ≡ line.old.bytes ++ codes "malformed") }
 {
     line.write_str("malformed")
 }
 
-// The start of an answer, as far as the line has room.
+// The start of an answer, as far as the line has room: `write_start` for those who need not know whether it had.
 pub fn put_start(line: &mut Line, word: &str, refusal: u8, results: &[usize]) {
     let _ = write_start(line, word, refusal, results);
 }

@@ -1,4 +1,5 @@
-// Each record of a plan file stored into a lent place.
+// Each record of a plan file stored into a lent place, from an offset on: place and offset come one by one, as in `record::bytes`, since a struct of
+// both would need a clause on the loan's name in each contract.
 ghost use Rattle.std.specs.Prelude.{◌≡◌, [], ◌∷◌, ◌+◌, ◌*◌, ◌≤◌, length};
 ghost use Rattle.std.proofs.lemmas.List.Edits.{sets};
 ghost use Rattle.meaning.specs.Plan.{most_cores};

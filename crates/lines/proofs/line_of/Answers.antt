@@ -5,8 +5,8 @@ use Rattle.lines.proofs.line_of.Goals as goal
 pub sound_line-requires-clause-held_in : goal.sound_line-requires-clause-held_in
 sound_line-requires-clause-held_in c = (found_file _ _ _ (rw c.in-Ok.is at c.requires.read_into)).held
 
-pub overflow_cast-e : goal.overflow_cast-e
-overflow_cast-e c =
+pub overflow_cast-fault : goal.overflow_cast-fault
+overflow_cast-fault c =
     let refused = found_refused _ _ _ (rw c.in-Err.is at c.requires.read_into) in
     omega (arith, refused.1)
 

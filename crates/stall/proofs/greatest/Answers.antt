@@ -14,15 +14,15 @@ pub part-requires : goal.part-requires
 part-requires c =
     let s = c.segment-item in
     let here = rw (next_pick _ c.loop-segment.segment-index s.result c.loop-segment-test.true s.is) at c.loop-segment.invariant in
-    here.runs.0
+    rw c.run.ensures here.runs.0
 
 pub overflow_add-whole : goal.overflow_add-whole
 overflow_add-whole c =
     let s = c.segment-item in
     let here = rw (next_pick _ c.loop-segment.segment-index s.result c.loop-segment-test.true s.is) at c.loop-segment.invariant in
     let fits = rw (c.from.ensures, c.room-room.ensures.0) at c.if-from-room.true in
-    let most = part_fits c.share_of-share.result c.loop-segment.left s.result.rise.0 s.result.run.0 here.runs.0 fits in
-    omega (arith, c.part.ensures, most, here.bound, c.risen-risen.ensures)
+    let most = part_fits c.share_of-share.result c.loop-segment.left s.result.rise s.result.run here.runs.0 fits in
+    omega (arith, rw (c.rise.ensures, c.run.ensures) at c.part.ensures, most, here.bound, c.risen-risen.ensures)
 
 pub returns-then-from-room : goal.returns-then-from-room
 returns-then-from-room c =
@@ -30,7 +30,7 @@ returns-then-from-room c =
     let here = rw (next_pick _ c.loop-segment.segment-index s.result c.loop-segment-test.true s.is) at c.loop-segment.invariant in
     let stop = walked_stop here (rw (c.from.ensures, c.room-room.ensures.0, c.share_of-share.ensures) at c.if-from-room.true) in
     c.checked.ensures
-    ∙ ap slots_of (ap (λ (n : ℕ). c.loop-segment.whole + n) c.part.ensures ∙ sym stop)
+    ∙ ap slots_of (ap (λ (n : ℕ). c.loop-segment.whole + n) (rw (c.rise.ensures, c.run.ensures) at c.part.ensures) ∙ sym stop)
 
 pub loop-segment-preserved : goal.loop-segment-preserved
 loop-segment-preserved c =
