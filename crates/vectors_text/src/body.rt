@@ -28,6 +28,7 @@ pub trait Number: Default + Drop {
     ghost has_bytes: { 0 < SIZE };
 }
 
+// One impl for each size: `from_le_bytes` is a function of each number type and of no trait, and an impl by a macro of our own is refused.
 impl Number for u8 {
     ghost SIZE = { 1 };
 
