@@ -143,13 +143,10 @@ pub found_alone : {n : Corner} {corners : List declared.Corner} {k : ℕ} {none 
 found_alone h e = sym (rw (stack_alone h.nine) at e)
 
 -- where the last corner is none there is one
-pub some_sags : {n : Corner} {corners : List declared.Corner} {k : ℕ}
-    → Ready n corners k
-    → last_sags n (stack_of corners k) ≡ true
-    → 1 ≤ k
+pub some_sags : (n : Corner) (corners : List declared.Corner) (k : ℕ) → last_sags n (stack_of corners k) ≡ true → 1 ≤ k
 unfolding stack_of last_sags
-some_sags {k = zero} h e = let z : ◌≡◌ {A = ℕ} 0 1 = cc in omega arith
-some_sags {k = suc k} h e = omega arith
+some_sags n corners zero e = let z : ◌≡◌ {A = ℕ} 0 1 = cc in omega arith
+some_sags n corners (suc k) e = omega arith
 
 -- a last corner that is none does not stay
 pub kept_step : (n t : Corner) (s : List Corner) → last_sags n (t ∷ s) ≡ true → kept n (t ∷ s) ≡ kept n s

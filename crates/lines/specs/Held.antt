@@ -1,11 +1,11 @@
 -- What is known of a file that was read into places for the longest one, and which line its listing has at a number.
-use Rattle.std.specs.Prelude.{◌≡◌, refl, Option, Result, Ok, Err, true, List, ℕ, zero, suc, ◌-◌, ◌*◌, ◌≤◌, length, get_or, take, drop}
+use Rattle.std.specs.Prelude.{◌≡◌, refl, Option, Result, Ok, Err, true, List, ℕ, zero, suc, ◌+◌, ◌-◌, ◌*◌, ◌≤◌, length, get_or, take, drop}
 use Rattle.std.proofs.Common.{sym, ap, ap₂, subst, ◌∙◌, inl, mul-le-mul, not-suc-le-zero, arith, length-append, length-take-le, get_or-take}
 use Rattle.std.proofs.lemmas.Bool.Decides.{nat_tests}
 use Rattle.meaning.specs.Plan.{Workload, most_cores, most_intervals, most_workloads}
 use Rattle.meaning.specs.PlanFile.{Reading, PlanFile, RightLists, read_file}
 use Rattle.meaning.specs.Promises.{Places, ReadFigures, ReadingPromise, ReadPromise, fits, file_held, written}
-use Rattle.meaning.specs.Listing.{answer_line, workload_at, LineOf}
+use Rattle.meaning.specs.Listing.{answer_line, workload_at, line_count, LineOf}
 use Rattle.plan_laws.specs.SoundPlan.{sound_plan}
 use Rattle.file_laws.specs.FileQuestions.{sound_file_plan}
 use Rattle.file_laws.specs.RefusedFiles.{refused_within}
@@ -134,6 +134,13 @@ pub found_refused : (s : List ℕ) (after : Places) (fault : FileRefusal)
 found_refused s after fault read =
     let found = refused_reading s (read_file s) read.before after fault refl read.sized read.promised in
     (found, (rw found at (refused_within s)).1)
+
+-- a listing has at most a line for each of 256 workloads, and two more
+pub few_lines : (s : List ℕ) (after : Places) (answer : Result Contents FileRefusal) → ReadInto s answer after → line_count (read_file s) ≤ most_workloads + 2
+few_lines s after (Ok c) read =
+    let found = found_file s after c read in
+    rw found.reads (omega (arith, length-take-le c.workloads after.analysed found.held.room.analysed, found.held.workloads))
+few_lines s after (Err fault) read = rw (found_refused s after fault read).0 (omega arith)
 
 -- the lines of the workloads stand between the plan's and the last
 pub workload_held : (c : Contents) (places : Places) (n : ℕ) (w : Workload) (before after : List ℕ) (built : Option ℕ)

@@ -241,7 +241,18 @@ sorting_one {n} {curve} {segments} {counts} most sound listed =
 
 module _ {n : ℕ} {curve : ℕ → Curve} {segments : List Segment} {counts : List ℕ} (sound : AllConcave n curve)
     (now : Sorting n curve segments counts) where
-  -- a level leaves fewer groups
+  -- a level adds no group
+  pub sorting_no_more : {after : List Segment} {later : List ℕ} → Levelled segments counts after later → length later ≤ length counts
+  sorting_no_more {after} {later} level =
+      omega (
+        arith,
+        paired_fewer (groups_of counts (picks_of segments)),
+        groups_length counts (picks_of segments),
+        groups_length later (picks_of after),
+        ap length level.groups,
+      )
+
+  -- and leaves fewer, where there are two
   pub sorting_fewer : {after : List Segment} {later : List ℕ}
       → 1 < length counts
       → Levelled segments counts after later
@@ -257,14 +268,11 @@ module _ {n : ℕ} {curve : ℕ → Curve} {segments : List Segment} {counts : L
       )
 
   -- of twice as many intervals, and in order
-  pub sorting_more : {after : List Segment} {later : List ℕ}
-      → 1 < length counts
-      → Levelled segments counts after later
-      → Sorting n curve after later
-  sorting_more {after} {later} some level =
+  pub sorting_more : {after : List Segment} {later : List ℕ} → Levelled segments counts after later → Sorting n curve after later
+  sorting_more {after} {later} level =
       record {
         fits = omega (arith, level.long, now.fits);
-        many = omega (arith, sorting_fewer some level, now.many);
+        many = omega (arith, sorting_no_more level, now.many);
         whole = level.whole;
         width = 2 * now.width;
         groups = rw level.groups (paired_order n now.width 0 (within 0 n curve) _ (known_up n curve sound) now.groups);

@@ -1,7 +1,7 @@
 // The order of filling: the segments of all intervals by falling slope.
 #![tactic(auto)]
 
-ghost use Rattle.std.specs.Prelude.{◌≡◌, ◌+◌, ◌≤◌, ◌++◌, length};
+ghost use Rattle.std.specs.Prelude.{◌≡◌, ◌+◌, ◌≤◌, ◌++◌, length, take};
 ghost use Rattle.meaning.specs.Plan.{sum_of};
 ghost use Rattle.placement_laws.specs.OrderMerged.{merged, not_steeper};
 ghost use Rattle.segments.specs.Blocks.{curve_at, Curves};
@@ -10,6 +10,13 @@ ghost use Rattle.order.specs.Groups.{Orders, Levelled};
 
 use segments::{Counts, Groups, Segment, Segments, crossed, list};
 use units::Block;
+
+// The segments of all intervals in the order of filling, as a value that can be copied: the first `count` of the places.
+#[derive(Clone, Copy)]
+pub struct Ordered {
+    pub picks: [Segment; 512],
+    pub count: usize,
+}
 
 // Whether the slope of one segment is at least that of another.
 fn not_flatter(first: Segment, second: Segment) -> bool
@@ -47,22 +54,21 @@ fn merge(mut left: &[Segment], mut right: &[Segment], to: &mut Segments)
     append(right, to);
 }
 
-// Each two neighbouring groups merged into one; an odd one at the end stays as it is.
-fn level(groups: &Groups) -> Groups
+// Each two neighbouring groups merged into one, an odd one at the end as it is, in place of what two lists held.
+fn level(groups: &Groups, segments: &mut Segments, counts: &mut Counts)
     requires { (length groups.now.segments.items ≤ 512) × (length groups.now.counts.items ≤ 64) × (sum_of groups.now.counts.items ≡ length groups.now.segments.items) }
-    ensures { Levelled groups.now.segments.items groups.now.counts.items result.segments.items result.counts.items }
+    ensures { Levelled groups.now.segments.items groups.now.counts.items segments.new.items counts.new.items }
 {
-    let mut segments = Segments::new();
-    let mut counts = Counts::new();
+    segments.clear();
+    counts.clear();
     let mut rest = groups.segments.as_slice();
     for pair in groups.counts.chunks(2) {
         let (left, others) = rest.split_at(pair[0]);
         let (right, others) = others.split_at(pair.get(1).copied().unwrap_or(0));
-        merge(left, right, &mut segments);
+        merge(left, right, segments);
         counts.push(left.len() + right.len());
         rest = others;
     }
-    Groups { segments, counts }
 }
 
 // The order of all segments: by falling slope, ties to the lower interval.
@@ -72,9 +78,30 @@ pub fn order(blocks: &[Block]) -> Segments
 {
     // Merging stays: the library's sorts do not know that each group is in order already; they want an order of all segments, which slopes
     // are not where a run is 0, and the stable one wants a heap.
+    // Two levels in each turn, to and fro between two lists of groups: a list is cleared once, and none is moved.
     let mut groups = list(blocks);
+    let mut merged = Groups {
+        segments: Segments::new(),
+        counts: Counts::new(),
+    };
     while groups.counts.len() > 1 {
-        groups = level(&groups);
+        level(&groups, &mut merged.segments, &mut merged.counts);
+        level(&merged, &mut groups.segments, &mut groups.counts);
     }
     groups.segments
+}
+
+impl Ordered {
+    // The order of all segments.
+    pub fn of(blocks: &[Block]) -> Ordered
+        requires { (length blocks.now ≤ 64) × Curves (length blocks.now) blocks.now }
+        ensures few { result.count ≤ 512 }
+        ensures order { Orders (length blocks.now) (curve_at blocks.now) (take result.count result.picks) }
+    {
+        let segments = order(blocks);
+        let count = segments.len();
+        let mut picks = [Segment::default(); 512];
+        picks[..count].copy_from_slice(&segments);
+        Ordered { picks, count }
+    }
 }

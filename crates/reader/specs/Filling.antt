@@ -19,14 +19,20 @@ table_of f (suc n) (x ∷ l) count each =
     let later = table_of (λ k. f (suc k)) n l (omega arith) (λ k h. each (suc k) (omega arith)) in
     λ i. here i ∷ later i
 
--- one number of a table more from the front
-table_more : (old : List ℕ) {new : List ℕ} (f : ℕ → ℕ) (n : ℕ)
-    → new ≡ sets old 0 (tabulate n f)
-    → set new n (f n) ≡ sets old 0 (tabulate (n + 1) f)
-table_more old f n e =
+-- one number of a table more
+pub table_more : (old : List ℕ) {new : List ℕ} (start : ℕ) (f : ℕ → ℕ) (n : ℕ)
+    → new ≡ sets old start (tabulate n f)
+    → set new (start + n) (f n) ≡ sets old start (tabulate (n + 1) f)
+table_more old start f n e =
     rw
     (e, add-one n, tabulate_more n f)
-    (sym (rw (length_tabulate n f, zero-add n) at (sets_append old 0 (tabulate n f) (f n ∷ []))))
+    (sym (rw (length_tabulate n f) at (sets_append old start (tabulate n f) (f n ∷ []))))
+
+-- one number of a table more from the front
+front_more : (old : List ℕ) {new : List ℕ} (f : ℕ → ℕ) (n : ℕ)
+    → new ≡ sets old 0 (tabulate n f)
+    → set new n (f n) ≡ sets old 0 (tabulate (n + 1) f)
+front_more old f n e = rw (zero-add n) at (table_more old 0 f n e)
 
 -- there is a budget for each core of each interval that was read
 pub budgets_count : (s : List ℕ) (i : ℕ) → length (budgets_to s i) ≡ i * byte_at s 4
@@ -49,10 +55,10 @@ pub filled_more : (s : List ℕ) (start i : ℕ) (old new : Workloads)
     (set new.horizons i (two_at s (start + 16 * i + 14))))
 filled_more s start i old new here =
     record {
-      analysed = table_more old.analysed (λ k. byte_at s (start + 16 * k + 4)) i here.analysed;
-      computing = table_more old.computing (λ k. four_at s (start + 16 * k + 6)) i here.computing;
-      requests = table_more old.requests (λ k. four_at s (start + 16 * k + 10)) i here.requests;
-      horizons = table_more old.horizons (λ k. two_at s (start + 16 * k + 14)) i here.horizons;
+      analysed = front_more old.analysed (λ k. byte_at s (start + 16 * k + 4)) i here.analysed;
+      computing = front_more old.computing (λ k. four_at s (start + 16 * k + 6)) i here.computing;
+      requests = front_more old.requests (λ k. four_at s (start + 16 * k + 10)) i here.requests;
+      horizons = front_more old.horizons (λ k. two_at s (start + 16 * k + 14)) i here.horizons;
     }
 
 -- the first i intervals were stored from the front of two places, and the next is read at this offset
@@ -80,7 +86,7 @@ interval_filled s at i m old_lengths old_budgets new_lengths new_budgets here co
     here.offset
     (record {
       offset = rw (add-one i);
-      lengths = table_more old_lengths (λ k. two_at s (record_at s k + 6)) i here.lengths;
+      lengths = front_more old_lengths (λ k. two_at s (record_at s k + 6)) i here.lengths;
       budgets =
           rw (
             add-one i,

@@ -46,7 +46,7 @@ impl Kind {
     }
 
     // The least bytes of a body of this kind.
-    fn least(self) -> u16
+    pub fn least(self) -> u16
         ensures { result ≡ least_of self }
     {
         match self {
@@ -57,7 +57,7 @@ impl Kind {
     }
 
     // The most bytes of a body of this kind.
-    fn most(self) -> u16
+    pub fn most(self) -> u16
         ensures { result ≡ most_of self }
     {
         match self {

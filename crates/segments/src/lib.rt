@@ -45,7 +45,7 @@ fn push_interval(interval: u8, block: &Block, segments: &mut Segments)
     for k in 1..usize::from(block.count) {
         let next = block.corners[k];
         let run = (next.rate.0 - here.rate.0) as u16;
-        let rise = (next.stall.0 - here.stall.0) as u16;
+        let rise = next.stall.0 - here.stall.0;
         segments.push(Segment {
             interval,
             run,

@@ -9,7 +9,7 @@ use units::{Requests, Slots};
 pub struct Segment {
     pub interval: u8,
     pub run: u16,
-    pub rise: u16,
+    pub rise: u32,
     ghost inside: { interval < 64 },
 }
 
@@ -25,7 +25,7 @@ impl Segment {
     pub fn rise(self) -> Slots
         ensures { result.0 ≡ self.rise }
     {
-        Slots(u32::from(self.rise))
+        Slots(self.rise)
     }
 
     // The requests that the segment has room for, where its interval has this share.
@@ -37,7 +37,7 @@ impl Segment {
 
     // The stall of the whole segment, where its interval has this share.
     pub fn risen(self, share: u16) -> u64
-        ensures { (result ≡ share * self.rise) × (result ≤ 4_294_836_225) }
+        ensures { (result ≡ share * self.rise) × (result ≤ 281_470_681_677_825) }
     {
         u64::from(share) * u64::from(self.rise)
     }

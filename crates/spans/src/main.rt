@@ -31,7 +31,7 @@ fn print(line: &[u8], built: Option<usize>) -> bool
 
 // Standard input to its end, but no more than there is room for; how many bytes there were.
 fn read_input(file: &mut [u8]) -> usize
-    requires { length file.old ≡ MOST_BYTES }
+    requires { length file.old ≡ 8_192 }
     ensures { IsPrefixLen result file.new }
 {
     io::read_full(STDIN, file)
@@ -40,7 +40,7 @@ fn read_input(file: &mut [u8]) -> usize
 // The lines of a file's listing, one after the other. A line that cannot be written ends it.
 fn print_lines(file: &[u8], answer: Result<Contents, FileRefusal>, places: Places, line: &mut [u8])
     requires read_into { ReadInto file.now answer (places_in places) }
-    requires file_len_bound { (length file.now ≤ MOST_BYTES) × (room ≤ length line.old) }
+    requires file_len_bound { (length file.now ≤ 8_192) × (room ≤ length line.old) }
 {
     let count = lines::lines_in(file, answer);
     for n in 0..count {

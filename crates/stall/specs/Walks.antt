@@ -74,7 +74,7 @@ module _ {share base : ℕ → ℕ} {n stall i : ℕ} (now : Summed share base n
 
 -- where a walk for n intervals stands: the whole stall of the bases and the first k segments, the requests that are left, and the segments to do
 pub record Walked (share base : ℕ → ℕ) (n : ℕ) (o : List Pick) (requests whole left k : ℕ) (todo : List Pick) : Type 0 where
-  pub bound : whole ≤ most_intervals * most_work + k * 4_294_836_225
+  pub bound : whole ≤ most_intervals * most_work + k * 281_470_681_677_825
   pub low : requests ≤ 4_294_967_295
   pub fits : left ≤ requests
   pub runs : Runs todo
@@ -115,7 +115,7 @@ walked_stop {share} {whole = whole} {left = left} {next = next} now fits =
 -- the next segment is filled whole
 pub walked_more : {share base : ℕ → ℕ} {n : ℕ} {o : List Pick} {requests whole left k : ℕ} {next : Pick} {later : List Pick}
     → Walked share base n o requests whole left k (next ∷ later)
-    → share next.interval * next.rise ≤ 4_294_836_225
+    → share next.interval * next.rise ≤ 281_470_681_677_825
     → share next.interval * next.run < left
     → Walked share base n o requests (whole + share next.interval * next.rise) (left - share next.interval * next.run) (k + 1) later
 unfolding walk

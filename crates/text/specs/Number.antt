@@ -15,10 +15,10 @@ pub record LastPut (number at : ℕ) (before : List ℕ) (place rest : ℕ) (lin
 
 module _ {number at : ℕ} {before : List ℕ} {place rest : ℕ} {line : List ℕ} (p : LastPut number at before place rest line) where
   -- one digit more
-  pub last_more : (next : ℕ) → place ≡ next + 1 → rest < 2 ^ 32 → at + next < length line → LastPut number at before next (rest / 10) (set line (at + next) (48 + rest % 10))
-  last_more next last few inside =
+  pub last_more : (next : ℕ) → place ≡ next + 1 → at + next < length line → LastPut number at before next (rest / 10) (set line (at + next) (48 + rest % 10))
+  last_more next last inside =
       let long : length (decimal rest) ≡ suc next = omega (arith, p.front (omega arith)) in
-      let digit = last_digit rest next few long in
+      let digit = last_digit rest next long in
       let here : at + place ≡ at + next + 1 = omega arith in
       let whole = take_all place (decimal rest) (omega arith) in
       let after = drop-set line (at + next) (48 + rest % 10) inside in

@@ -8,7 +8,7 @@
 use vectors_files::{read_question, write_question};
 use vectors_plans::curves::{corners_question, raw_question};
 use vectors_plans::plans::{placement_question, span_question};
-use vectors_text::line::{Line, malformed};
+use vectors_text::line::{Line, empty_line, malformed};
 
 // Standard input, read by its number: the programs take no handle.
 const STDIN: i32 = 0;
@@ -58,7 +58,7 @@ fn answer_next(body: &mut [u8; BODY], line: &mut Line) -> bool {
 // Answers record after record.
 fn main() {
     let mut body = [0; BODY];
-    let mut line = Line::new();
+    let mut line = empty_line();
     for _ in 0..MOST_RECORDS {
         if !answer_next(&mut body, &mut line) {
             return;

@@ -1,27 +1,23 @@
 // Questions on plan files: one read, and one written.
 #![tactic(auto)]
 
-use arrayvec::ArrayVec;
+use arrayvec::ArrayString;
 use reader::{Contents, FileRefusal};
 use units::{Plan, Workloads};
 use vectors_text::body::{count_at, head_at, is_within, number_at, numbers_from};
-use vectors_text::line::{Line, malformed, put_place, put_refused, put_start};
-use vectors_text::places::{ROOM, unwritten};
+use vectors_text::line::{malformed, put_place, put_refused, put_start};
+use vectors_text::places::ROOM;
 
 // Whether the counts of two bytes at these indexes are within the fixed places.
 fn are_within(body: &[u8], indexes: &[usize]) -> bool {
     indexes.iter().all(|at| is_within(body, *at))
 }
 
-// A lent place, with the room that two bytes at an index say.
-fn place_at<T: Copy + Default + From<u8>>(body: &[u8], at: usize) -> ArrayVec<T, ROOM> {
-    let mut place = ArrayVec::from(unwritten());
-    place.truncate(count_at(body, at));
-    place
-}
-
 // The start of an answer on a file that is read.
-fn put_read(line: &mut Line, answer: Result<Contents, FileRefusal>) {
+fn put_read<const CAPACITY: usize>(
+    line: &mut ArrayString<CAPACITY>,
+    answer: Result<Contents, FileRefusal>,
+) {
     match answer {
         Ok(found) => {
             let head = found.head;
@@ -33,51 +29,52 @@ fn put_read(line: &mut Line, answer: Result<Contents, FileRefusal>) {
                 found.intervals,
                 found.workloads,
             ];
-            put_start(line, "read", 0, &plan)
+            put_start(line, b"read", 0, &plan)
         }
         Err(refused) => put_refused(
             line,
-            "read",
+            b"read",
             refused.refusal,
             &[refused.offset, 0, 0, 0, 0, 0],
         ),
     }
 }
 
-// The rooms of the six places in two bytes each, and the file to the body's end. The places stay six: their numbers have three sizes.
-pub fn read_question(body: &[u8], line: &mut Line) {
+// The rooms of the six places in two bytes each, and the file to the body's end. The places stay six: their numbers have three sizes. Each
+// number holds 7 before the question; the arrays are written out, since by `unwritten` each would be moved once more.
+pub fn read_question<const CAPACITY: usize>(body: &[u8], line: &mut ArrayString<CAPACITY>) {
     let Some(file) = body.get(12..) else {
         return malformed(line);
     };
     if !are_within(body, &[0, 2, 4, 6, 8, 10]) {
         return malformed(line);
     }
-    let mut lengths = place_at(body, 0);
-    let mut budgets = place_at(body, 2);
-    let mut analysed = place_at(body, 4);
-    let mut computing = place_at(body, 6);
-    let mut requests = place_at(body, 8);
-    let mut horizons = place_at(body, 10);
+    let mut lengths = [7; ROOM];
+    let mut budgets = [7; ROOM];
+    let mut analysed = [7; ROOM];
+    let mut computing = [7; ROOM];
+    let mut requests = [7; ROOM];
+    let mut horizons = [7; ROOM];
+    let lengths = &mut lengths[..count_at(body, 0)];
+    let budgets = &mut budgets[..count_at(body, 2)];
+    let analysed = &mut analysed[..count_at(body, 4)];
+    let computing = &mut computing[..count_at(body, 6)];
+    let requests = &mut requests[..count_at(body, 8)];
+    let horizons = &mut horizons[..count_at(body, 10)];
     let answer = reader::read(
-        file,
-        &mut lengths,
-        &mut budgets,
-        &mut analysed,
-        &mut computing,
-        &mut requests,
-        &mut horizons,
+        file, lengths, budgets, analysed, computing, requests, horizons,
     );
     put_read(line, answer);
-    put_place(line, &lengths);
-    put_place(line, &budgets);
-    put_place(line, &analysed);
-    put_place(line, &computing);
-    put_place(line, &requests);
-    put_place(line, &horizons)
+    put_place(line, lengths);
+    put_place(line, budgets);
+    put_place(line, analysed);
+    put_place(line, computing);
+    put_place(line, requests);
+    put_place(line, horizons)
 }
 
 // Cores, Q, the mark, the room of the place, the counts of the lengths and the budgets, of the four lists of workload values, and the lists.
-pub fn write_question(body: &[u8], line: &mut Line) {
+pub fn write_question<const CAPACITY: usize>(body: &[u8], line: &mut ArrayString<CAPACITY>) {
     let intervals = usize::from(number_at::<u8>(body, 8));
     let budgets_start = 19 + 2 * intervals;
     let analysed_start = budgets_start + 2 * count_at(body, 9);
@@ -105,10 +102,11 @@ pub fn write_question(body: &[u8], line: &mut Line) {
         requests: &requests,
         horizons: &horizons,
     };
-    let mut place = place_at(body, 6);
-    match writer::write(plan, workloads, &mut place) {
-        Ok(bytes) => put_start(line, "write", 0, &[bytes]),
-        Err(refusal) => put_refused(line, "write", refusal, &[0]),
+    let mut place = [7; ROOM];
+    let place = &mut place[..count_at(body, 6)];
+    match writer::write(plan, workloads, place) {
+        Ok(bytes) => put_start(line, b"write", 0, &[bytes]),
+        Err(refusal) => put_refused(line, b"write", refusal, &[0]),
     }
-    put_place(line, &place)
+    put_place(line, place)
 }

@@ -1,14 +1,15 @@
 // Questions on a whole plan: placement and span.
 use crate::answers::put_answer;
 use crate::lists::Lists;
+use arrayvec::ArrayString;
 use span::SpanAnswer;
 use units::{Periods, Requests, Slots, Workload};
 use vectors_text::body::{head_at, number_at};
-use vectors_text::line::{Line, malformed, put_place};
+use vectors_text::line::{malformed, put_place};
 use vectors_text::places::unwritten;
 
 // Cores, core, Q, the mark, requests, W, the start, the room of the place, the count of the lengths, the lengths, and the budgets to the body's end.
-pub fn placement_question(body: &[u8], line: &mut Line) {
+pub fn placement_question<const CAPACITY: usize>(body: &[u8], line: &mut ArrayString<CAPACITY>) {
     let Some(lists) = Lists::at(body, 16) else {
         return malformed(line);
     };
@@ -23,7 +24,7 @@ pub fn placement_question(body: &[u8], line: &mut Line) {
         Periods(number_at(body, 11)),
         place,
     );
-    put_answer(line, "placement", answer.map(|stall| [stall.0 as usize]));
+    put_answer(line, b"placement", answer.map(|stall| [stall.0 as usize]));
     put_place(line, place)
 }
 
@@ -46,7 +47,7 @@ fn results(found: SpanAnswer) -> [usize; 3] {
 
 // Cores, core, Q, the mark, computing, requests, horizon, start, the room of the place, the count of the lengths, the lengths, and the
 // budgets to the body's end.
-pub fn span_question(body: &[u8], line: &mut Line) {
+pub fn span_question<const CAPACITY: usize>(body: &[u8], line: &mut ArrayString<CAPACITY>) {
     let Some(lists) = Lists::at(body, 20) else {
         return malformed(line);
     };
@@ -54,6 +55,6 @@ pub fn span_question(body: &[u8], line: &mut Line) {
     let mut place = unwritten();
     let place = &mut place[..room];
     let answer = span::span(lists.plan(head_at(body, 2)), workload(body), place);
-    put_answer(line, "span", answer.map(results));
+    put_answer(line, b"span", answer.map(results));
     put_place(line, place)
 }

@@ -75,9 +75,11 @@ impl Number for u32 {
 fn front<const SIZE: usize>(bytes: &[u8]) -> [u8; SIZE]
     ensures { EachIndex result (λ index. slice_index result index ≡ slice_index bytes.now index) }
 {
+    // Byte by byte: a copy of so few bytes, as many as there are, costs more than they do.
     let mut front = [0; SIZE];
-    let size = bytes.len().min(SIZE);
-    front[..size].copy_from_slice(&bytes[..size]);
+    for index in 0..SIZE {
+        front[index] = bytes.get(index).copied().unwrap_or(0);
+    }
     front
 }
 

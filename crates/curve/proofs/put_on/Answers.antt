@@ -10,10 +10,10 @@ last_sags-requires c =
 
 -- where the last corner is none, there is one to take off
 pub overflow_sub-count : goal.overflow_sub-count
-overflow_sub-count c = some_sags c.loop-count.invariant.0 (found_alone c.loop-count.invariant.0 c.loop-count-test.ensures)
+overflow_sub-count c = some_sags _ _ _ (found_alone c.loop-count.invariant.0 c.loop-count-test.ensures)
 
 pub loop-count-smaller : goal.loop-count-smaller
-loop-count-smaller c = omega (arith, some_sags c.loop-count.invariant.0 (found_alone c.loop-count.invariant.0 c.loop-count-test.ensures))
+loop-count-smaller c = omega (arith, some_sags _ _ _ (found_alone c.loop-count.invariant.0 c.loop-count-test.ensures))
 
 pub loop-count-preserved : goal.loop-count-preserved
 loop-count-preserved c =

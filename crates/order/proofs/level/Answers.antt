@@ -6,7 +6,7 @@ use Rattle.order.proofs.level.Goals as goal
 pub loop-pair-init : goal.loop-pair-init
 loop-pair-init c =
     let chunks = c.chunks-pair-items.ensures in
-    rw (c.into_iter-pair-iterator.ensures.into_iter_gives, c.new-segments.ensures, c.new-counts.ensures, c.as_slice-rest.ensures.value)
+    rw (c.into_iter-pair-iterator.ensures.into_iter_gives, c.clear.ensures, c.clear-2.ensures, c.as_slice-rest.ensures.value)
     (chunks.size, rw (chunks.rest, c.deref.ensures.0) (levelling_none c.requires.2))
 
 pub loop-pair-preserved : goal.loop-pair-preserved

@@ -5,4 +5,4 @@ use Rattle.text.proofs.put_number.Goals as goal
 pub loop-place-preserved : goal.loop-place-preserved
 loop-place-preserved c =
     let turn = c.loop-place in
-    last_more turn.invariant (turn.place - 1) (omega arith) (omega arith) (omega arith)
+    last_more turn.invariant (turn.place - 1) (omega arith) (omega arith)
