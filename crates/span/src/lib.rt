@@ -145,7 +145,11 @@ pub fn span(plan: Plan, workload: Workload, place: &mut [u32]) -> Result<SpanAns
         per_period: plan.head.per_period,
         workload,
     };
-    let met = search::search(terms, begin, plan.lengths)?;
+    // No `?`: the edit by which requests are dropped turns the value of the second arm alone.
+    let met = match search::search(terms, begin, plan.lengths) {
+        Ok(met) => met,
+        Err(why) => return Err(why),
+    };
     let shares = shares::shares_of(begin, plan.lengths, met.span);
     let intervals = plan.lengths.len();
     let stall = answer_with(&prepared, &shares, intervals, workload.requests, place);

@@ -1,5 +1,5 @@
 // The text of an answer, put behind what the line holds: a line with any room. A line that is full refuses the rest.
-ghost use Rattle.std.specs.Prelude.{◌≡◌, ℕ, List, [], ◌∷◌, ◌++◌, codes, OnOk};
+ghost use Rattle.std.specs.Prelude.{◌≡◌, ℕ, List, [], ◌∷◌, ◌++◌, length, codes, OnOk};
 ghost use Rattle.std.specs.Fmt.{decimal};
 ghost use Rattle.units.specs.Refusals.{number_of};
 ghost use Rattle.vectors_text.specs.Text.{Prints, spaced};
@@ -14,11 +14,10 @@ pub type Line = ArrayString<400_000>;
 
 // An empty line with all that room.
 pub fn empty_line() -> Line
-    ensures { result.bytes ≡ [] }
+    ensures none { result.bytes ≡ [] }
+    ensures room { length result.spare ≡ 400_000 }
 {
-    let line = Line::new();
-    prove!(line.capacity() == 400_000);
-    line
+    Line::new()
 }
 
 // Numbers, each after one space.

@@ -1,4 +1,4 @@
-use Rattle.std.proofs.Common.{◌≡◌, Ok, Err, ℕ, List, rules, le_trans, sym, subst}
+use Rattle.std.proofs.Common.{Ok, Err, ℕ, List, le_trans, sym, subst}
 use Rattle.span_laws.specs.SpanQuestion.{sound_span}
 use Rattle.span_laws.specs.TermsInSlots.{holding, RisingTerms}
 use Rattle.meaning.specs.Span.{work}
@@ -37,21 +37,19 @@ search-requires c =
           (span_terms p w c.args.place.now c.in_ok-cycle.ensures.0 made.segments.items made.bases.items begun.prepared),
     )
 
-pub returns-in_err-met : goal.returns-in_err-met
-returns-in_err-met c =
+pub returns-in-Err : goal.returns-in-Err
+returns-in-Err c =
     let p = plan_of c.args.plan in
     let w = workload_of c.args.workload in
     let begun = c.begin-prepared.ensures in
     let made = c.begin-prepared.result.prepared in
-    let f = c.in_err-met.field-0.0 in
-    let e : c.from_residual-in_err-met.result ≡ Err f = search rules in
-    rw e
-    (span_none p w c.args.place.now c.in_ok-cycle.ensures.0 made.segments.items made.bases.items begun.prepared f
+    let why = c.in-Err.why in
+    span_none p w c.args.place.now c.in_ok-cycle.ensures.0 made.segments.items made.bases.items begun.prepared why
     (subst
     (λ (share : ℕ → List ℕ).
-    EndsWith (term_after p.per_period made.bases.items share (picks_of made.segments.items) w) (holding p.per_period (work w)) w.horizon (Err f))
+    EndsWith (term_after p.per_period made.bases.items share (picks_of made.segments.items) w) (holding p.per_period (work w)) w.horizon (Err why))
     begun.shares
-    c.in_err-met.ensures))
+    c.in-Err.ensures)
 
 pub shares_of-shares-requires : goal.shares_of-shares-requires
 shares_of-shares-requires c =
@@ -65,12 +63,12 @@ answer_with-stall-requires c =
     let sound = sound_span _ _ _ c.in_ok-cycle.ensures.0 in
     let begun = c.begin-prepared.ensures in
     let made = c.begin-prepared.result.prepared in
-    let met = c.in_ok-met.met in
+    let met = c.in-Ok.met in
     let shared = begun_reads p w.core w.start _ made met.span.0 c.shares_of-shares.result begun c.shares_of-shares.ensures in (
       begun.prepared.orders.inside,
       sound.enough_room,
       prepared_fits p w.start sound.from made.segments.items made.bases.items w.core begun.prepared w.requests met.span.0
-          c.shares_of-shares.result shared (le_trans c.in_ok-met.ensures.2 sound.in_limit),
+          c.shares_of-shares.result shared (le_trans c.in-Ok.ensures.2 sound.in_limit),
     )
 
 pub returns : goal.returns
@@ -79,7 +77,7 @@ returns c =
     let w = workload_of c.args.workload in
     let begun = c.begin-prepared.ensures in
     let made = c.begin-prepared.result.prepared in
-    let met = c.in_ok-met.met in
+    let met = c.in-Ok.met in
     let shared = begun_reads p w.core w.start _ made met.span.0 c.shares_of-shares.result begun c.shares_of-shares.ensures in
     span_found p w c.args.place.now c.in_ok-cycle.ensures.0 made.segments.items made.bases.items begun.prepared met c.shares_of-shares.result
     c.answer_with-stall.result.0 c.answer_with-stall.new.place
@@ -87,6 +85,6 @@ returns c =
     (λ (share : ℕ → List ℕ).
     EndsWith (term_after p.per_period made.bases.items share (picks_of made.segments.items) w) (holding p.per_period (work w)) w.horizon (Ok met))
     begun.shares
-    c.in_ok-met.ensures)
+    c.in-Ok.ensures)
     shared
     c.answer_with-stall.ensures
