@@ -5,10 +5,13 @@
 // ends inside a record ends the answers.
 #![tactic(auto)]
 
-use vectors_files::{read_question, write_question};
-use vectors_plans::curves::{corners_question, raw_question};
-use vectors_plans::plans::{placement_question, span_question};
-use vectors_text::line::{Line, empty_line, malformed};
+#[cfg(test)]
+mod tests; // tests.rt: the questions into a lent slice
+
+use vectors_files::{answer_read, answer_write};
+use vectors_plans::curves::{answer_corners, answer_raw};
+use vectors_plans::plans::{answer_placement, answer_span};
+use vectors_text::line::{Line, empty_line, put_malformed};
 
 // Standard input, read by its number: the programs take no handle.
 const STDIN: i32 = 0;
@@ -25,13 +28,13 @@ const MOST_RECORDS: u32 = 4_000_000_000;
 // Puts the answer to one record into the line. The kinds are numbers that are matched here alone: an enum of them would list each twice.
 fn answer(kind: u8, body: &[u8], line: &mut Line) {
     match kind {
-        1 => raw_question(body, line),
-        2 => corners_question(body, line),
-        3 => placement_question(body, line),
-        4 => span_question(body, line),
-        5 => read_question(body, line),
-        6 => write_question(body, line),
-        _ => malformed(line),
+        1 => answer_raw(body, line),
+        2 => answer_corners(body, line),
+        3 => answer_placement(body, line),
+        4 => answer_span(body, line),
+        5 => answer_read(body, line),
+        6 => answer_write(body, line),
+        _ => put_malformed(line),
     }
 }
 

@@ -1,12 +1,15 @@
 // Questions on plan files: one read, and one written.
 #![tactic(auto)]
 
-use arrayvec::ArrayString;
+ghost use Rattle.std.specs.Prelude.{◌≤◌, length};
+
 use reader::{Contents, FileRefusal};
+use std::fmt::Write;
 use units::{Plan, Workloads};
 use vectors_text::body::{count_at, head_at, is_within, number_at, numbers_from};
-use vectors_text::line::{malformed, put_place, put_refused, put_start};
+use vectors_text::line::{put_malformed, put_place, write_refused, write_start};
 use vectors_text::places::ROOM;
+use vectors_text::slice_line::in_slice;
 
 // Whether the counts of two bytes at these indexes are within the fixed places.
 fn are_within(body: &[u8], indexes: &[usize]) -> bool {
@@ -14,11 +17,8 @@ fn are_within(body: &[u8], indexes: &[usize]) -> bool {
 }
 
 // The start of an answer on a file that is read.
-fn put_read<const CAPACITY: usize>(
-    line: &mut ArrayString<CAPACITY>,
-    answer: Result<Contents, FileRefusal>,
-) {
-    match answer {
+fn put_read<W: Write>(line: &mut W, answer: Result<Contents, FileRefusal>) {
+    let _ = match answer {
         Ok(found) => {
             let head = found.head;
             let plan = [
@@ -29,25 +29,25 @@ fn put_read<const CAPACITY: usize>(
                 found.intervals,
                 found.workloads,
             ];
-            put_start(line, b"read", 0, &plan)
+            write_start(line, "read", 0, &plan)
         }
-        Err(refused) => put_refused(
+        Err(refused) => write_refused(
             line,
-            b"read",
+            "read",
             refused.refusal,
             &[refused.offset, 0, 0, 0, 0, 0],
         ),
-    }
+    };
 }
 
 // The rooms of the six places in two bytes each, and the file to the body's end. The places stay six: their numbers have three sizes. Each
 // number holds 7 before the question; the arrays are written out, since by `unwritten` each would be moved once more.
-pub fn read_question<const CAPACITY: usize>(body: &[u8], line: &mut ArrayString<CAPACITY>) {
+pub fn answer_read<W: Write>(body: &[u8], line: &mut W) {
     let Some(file) = body.get(12..) else {
-        return malformed(line);
+        return put_malformed(line);
     };
     if !are_within(body, &[0, 2, 4, 6, 8, 10]) {
-        return malformed(line);
+        return put_malformed(line);
     }
     let mut lengths = [7; ROOM];
     let mut budgets = [7; ROOM];
@@ -74,7 +74,7 @@ pub fn read_question<const CAPACITY: usize>(body: &[u8], line: &mut ArrayString<
 }
 
 // Cores, Q, the mark, the room of the place, the counts of the lengths and the budgets, of the four lists of workload values, and the lists.
-pub fn write_question<const CAPACITY: usize>(body: &[u8], line: &mut ArrayString<CAPACITY>) {
+pub fn answer_write<W: Write>(body: &[u8], line: &mut W) {
     let intervals = usize::from(number_at::<u8>(body, 8));
     let budgets_start = 19 + 2 * intervals;
     let analysed_start = budgets_start + 2 * count_at(body, 9);
@@ -83,7 +83,7 @@ pub fn write_question<const CAPACITY: usize>(body: &[u8], line: &mut ArrayString
     let horizons_start = requests_start + 4 * count_at(body, 15);
     let end = horizons_start + 2 * count_at(body, 17);
     if !are_within(body, &[6, 9, 11, 13, 15, 17]) || body.len() != end {
-        return malformed(line);
+        return put_malformed(line);
     }
     let lengths = numbers_from(body, 19, intervals);
     let budgets = numbers_from(body, budgets_start, count_at(body, 9));
@@ -104,9 +104,23 @@ pub fn write_question<const CAPACITY: usize>(body: &[u8], line: &mut ArrayString
     };
     let mut place = [7; ROOM];
     let place = &mut place[..count_at(body, 6)];
-    match writer::write(plan, workloads, place) {
-        Ok(bytes) => put_start(line, b"write", 0, &[bytes]),
-        Err(refusal) => put_refused(line, b"write", refusal, &[0]),
-    }
+    let _ = match writer::write(plan, workloads, place) {
+        Ok(bytes) => write_start(line, "write", 0, &[bytes]),
+        Err(refusal) => write_refused(line, "write", refusal, &[0]),
+    };
     put_place(line, place)
+}
+
+// `answer_read` into a slice, from its front on; the answer's length, or the slice's where there is no room for all of it.
+pub fn read_question(body: &[u8], line: &mut [u8]) -> usize
+    ensures { result ≤ length line.new }
+{
+    in_slice(line, |line| answer_read(body, line))
+}
+
+// `answer_write` into a slice, from its front on; the answer's length, or the slice's where there is no room for all of it.
+pub fn write_question(body: &[u8], line: &mut [u8]) -> usize
+    ensures { result ≤ length line.new }
+{
+    in_slice(line, |line| answer_write(body, line))
 }

@@ -1,2 +1,3 @@
 -- The words of this crate's contracts.
+pub mod SliceLines
 pub mod Text

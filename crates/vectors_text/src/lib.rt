@@ -4,3 +4,4 @@
 pub mod body; // body.rt: numbers out of a record's body
 pub mod line; // line.rt: an answer put into a line
 pub mod places; // places.rt: places that are lent
+pub mod slice_line; // slice_line.rt: a lent slice as a line

@@ -1,12 +1,16 @@
-// The text of an answer, put behind what the line holds: a line with any room. A line that is full refuses the rest.
-ghost use Rattle.std.specs.Prelude.{◌≡◌, ℕ, List, [], ◌∷◌, ◌++◌, length, codes, OnOk};
+// The text of an answer. `write_start` and the like put it behind what a line holds, any writer of text, and say whether the line took it;
+// `put_place` and `put_malformed` do so without a word. `put_start`, `put_refused` and `malformed` put it into a lent slice, from its front on.
+ghost use Rattle.std.specs.Prelude.{◌≡◌, ◌≤◌, ℕ, List, [], ◌∷◌, ◌++◌, length, codes, OnOk};
 ghost use Rattle.std.specs.Fmt.{decimal};
 ghost use Rattle.units.specs.Refusals.{number_of};
-ghost use Rattle.vectors_text.specs.Text.{Prints, spaced};
+ghost use Rattle.vectors_text.specs.SliceLines.{Filled, FillsFront};
+ghost use Rattle.vectors_text.specs.Text.{Holds, Prints, spaced};
 
+use crate::slice_line::SliceLine;
 use arrayvec::ArrayString;
+use itoa::Buffer;
+use std::fmt;
 use std::fmt::{Display, Write};
-use std::{fmt, str};
 use units::Refusal;
 
 // A line of text, with room for the longest: six places of 8,192 numbers of at most 44 characters together.
@@ -21,12 +25,10 @@ pub fn empty_line() -> Line
 }
 
 // Numbers, each after one space.
-fn write_numbers<T: Display, const CAPACITY: usize>(
-    line: &mut ArrayString<CAPACITY>,
-    numbers: &[T],
-) -> fmt::Result
+fn write_numbers<T: Display, W: Write>(line: &mut W, numbers: &[T]) -> fmt::Result
     ensures { (text : T → List ℕ) → Prints T.output text
-        → OnOk result (line.new.bytes ≡ line.old.bytes ++ spaced text numbers.now) }
+        → (held : W → List ℕ) → Holds W.write_str_gives held
+        → OnOk result (held line.new ≡ held line.old ++ spaced text numbers.now) }
 {
     for number in numbers {
         write!(line, " {number}")?;
@@ -34,83 +36,98 @@ fn write_numbers<T: Display, const CAPACITY: usize>(
     Ok(())
 }
 
-// The start of an answer: its word, the refusal's number or 0, and the results. It is a number here, since `put_start` takes one.
-pub fn write_start<const CAPACITY: usize>(
-    line: &mut ArrayString<CAPACITY>,
+// The start of an answer: its word, the refusal's number or 0, and the results. It is a number, since 0 is no refusal's.
+pub fn write_start<W: Write>(
+    line: &mut W,
     word: &str,
     refusal: u8,
     results: &[usize],
 ) -> fmt::Result
-    ensures { OnOk result
-        (line.new.bytes ≡ line.old.bytes ++ word.now ++ spaced decimal (refusal ∷ results.now)) }
+    ensures { (held : W → List ℕ) → Holds W.write_str_gives held
+        → OnOk result (held line.new ≡ held line.old ++ word.now ++ spaced decimal (refusal ∷ results.now)) }
 {
     write!(line, "{word} {refusal}")?;
     write_numbers(line, results)
 }
 
 // The start of a refused answer, with what stands in the place of the results.
-pub fn write_refused<const CAPACITY: usize>(
-    line: &mut ArrayString<CAPACITY>,
+pub fn write_refused<W: Write>(
+    line: &mut W,
     word: &str,
     refusal: Refusal,
     results: &[usize],
 ) -> fmt::Result
-    ensures { OnOk result
-        (line.new.bytes ≡ line.old.bytes ++ word.now ++ spaced decimal (number_of refusal ∷ results.now)) }
+    ensures { (held : W → List ℕ) → Holds W.write_str_gives held
+        → OnOk result (held line.new ≡ held line.old ++ word.now ++ spaced decimal (number_of refusal ∷ results.now)) }
 {
     write_start(line, word, refusal.number(), results)
 }
 
 // A lent place of numbers, all of it.
-pub fn write_place<T: Display, const CAPACITY: usize>(
-    line: &mut ArrayString<CAPACITY>,
-    place: &[T],
-) -> fmt::Result
+pub fn write_place<T: Display, W: Write>(line: &mut W, place: &[T]) -> fmt::Result
     ensures { (text : T → List ℕ) → Prints T.output text
-        → OnOk result (line.new.bytes ≡ line.old.bytes ++ codes " :" ++ spaced text place.now) }
+        → (held : W → List ℕ) → Holds W.write_str_gives held
+        → OnOk result (held line.new ≡ held line.old ++ codes " :" ++ spaced text place.now) }
 {
     line.write_str(" :")?;
     write_numbers(line, place)
 }
 
 // The answer to a record that is no question.
-pub fn write_malformed<const CAPACITY: usize>(line: &mut ArrayString<CAPACITY>) -> fmt::Result
-    ensures { OnOk result (line.new.bytes ≡ line.old.bytes ++ codes "malformed") }
+pub fn write_malformed<W: Write>(line: &mut W) -> fmt::Result
+    ensures { (held : W → List ℕ) → Holds W.write_str_gives held
+        → OnOk result (held line.new ≡ held line.old ++ codes "malformed") }
 {
     line.write_str("malformed")
 }
 
-// The start of an answer, as far as the line has room: `write_start` for those who need not know whether it had. A word that is no text has
-// no room in a line, and then nothing is put.
-pub fn put_start<const CAPACITY: usize>(
-    line: &mut ArrayString<CAPACITY>,
-    word: &[u8],
-    refusal: u8,
-    results: &[usize],
-) {
-    if let Ok(word) = str::from_utf8(word) {
-        let _ = write_start(line, word, refusal, results);
-    }
-}
-
-// The start of a refused answer, as far as the line has room.
-pub fn put_refused<const CAPACITY: usize>(
-    line: &mut ArrayString<CAPACITY>,
-    word: &[u8],
-    refusal: Refusal,
-    results: &[usize],
-) {
-    if let Ok(word) = str::from_utf8(word) {
-        let _ = write_refused(line, word, refusal, results);
-    }
-}
-
 // A lent place of numbers, as far as the line has room.
-pub fn put_place<T: Display, const CAPACITY: usize>(line: &mut ArrayString<CAPACITY>, place: &[T]) {
+pub fn put_place<T: Display, W: Write>(line: &mut W, place: &[T]) {
     let _ = write_place(line, place);
 }
 
-// The answer to a record that is no question, where the line has room.
-pub fn malformed<const CAPACITY: usize>(line: &mut ArrayString<CAPACITY>) {
+// The answer to a record that is no question, as far as the line has room.
+pub fn put_malformed<W: Write>(line: &mut W) {
     let _ = write_malformed(line);
+}
+
+// Numbers into a slice, each after one space.
+fn put_numbers(line: &mut SliceLine, numbers: &[usize])
+    ensures { Filled line.old (spaced decimal numbers.now) line.new }
+{
+    let mut digits = Buffer::new();
+    for number in numbers {
+        line.put(b" ");
+        line.put(digits.format(*number).as_bytes());
+    }
+}
+
+// The start of an answer in a slice, as `write_start` has it with a word of any bytes, as far as there is room; its length.
+pub fn put_start(line: &mut [u8], word: &[u8], refusal: u8, results: &[usize]) -> usize
+    ensures within { result ≤ length line.new }
+    ensures text { FillsFront (word.now ++ spaced decimal (refusal ∷ results.now)) line.old result line.new }
+{
+    let mut front = SliceLine::new(line);
+    front.put(word);
+    put_numbers(&mut front, &[usize::from(refusal)]);
+    put_numbers(&mut front, results);
+    front.len()
+}
+
+// The start of a refused answer in a slice, with what stands in the place of the results.
+pub fn put_refused(line: &mut [u8], word: &[u8], refusal: Refusal, results: &[usize]) -> usize
+    ensures within { result ≤ length line.new }
+    ensures text { FillsFront (word.now ++ spaced decimal (number_of refusal ∷ results.now)) line.old result line.new }
+{
+    put_start(line, word, refusal.number(), results)
+}
+
+// The answer to a record that is no question, in a slice.
+pub fn malformed(line: &mut [u8]) -> usize
+    ensures within { result ≤ length line.new }
+    ensures text { FillsFront (codes "malformed") line.old result line.new }
+{
+    let mut front = SliceLine::new(line);
+    front.put(b"malformed");
+    front.len()
 }

@@ -5,7 +5,7 @@ use Rattle.std.proofs.lemmas.Grind.{common_steps}
 use Rattle.vectors_text.proofs.line.write_numbers.Goals as goal
 
 pub loop-number-preserved : goal.loop-number-preserved
-loop-number-preserved g c = λ text prints.
-    let e = contents_after_writes _ (λ s. s.bytes) (λ _ _ _ t. t) _ _ _ (rw prints at c.in_ok-write.ensures.writes) in
-    let i = c.loop-number.invariant text prints in
+loop-number-preserved g c = λ text prints held holds.
+    let e = contents_after_writes _ held holds _ _ _ (rw prints at c.in_ok-write.ensures.writes) in
+    let i = c.loop-number.invariant text prints held holds in
     grind (arith, common_steps)

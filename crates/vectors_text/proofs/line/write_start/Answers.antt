@@ -6,7 +6,7 @@ use Rattle.std.specs.Fmt.{decimal}
 use Rattle.vectors_text.proofs.line.write_start.Goals as goal
 
 pub returns : goal.returns
-returns g c =
-    let e = contents_after_writes _ (λ s. s.bytes) (λ _ _ _ t. t) _ _ _ c.in_ok-write.ensures.writes in
-    let n = c.write_numbers.ensures decimal (λ _. refl) in
+returns g c = λ held holds.
+    let e = contents_after_writes _ held holds _ _ _ c.in_ok-write.ensures.writes in
+    let n = c.write_numbers.ensures decimal (λ _. refl) held holds in
     grind (arith, common_steps)

@@ -1,0 +1,6 @@
+-- The line is new before the answer, and its length is read behind it.
+use Rattle.std.proofs.Common.{arith, rules}
+use Rattle.vectors_text.proofs.slice_line.in_slice.Goals as goal
+
+pub returns-clause-answered : goal.returns-clause-answered
+returns-clause-answered g c = (c.new-line.result, c.answer.new.arg2, c.new-line.ensures.none, c.new-line.ensures.held, search rules, omega (arith, c.min.ensures, c.len.ensures))
