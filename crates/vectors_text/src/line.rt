@@ -1,5 +1,5 @@
 // The text of an answer. `write_start` and the like put it behind what a line holds, any writer of text, and say whether the line took it;
-// `put_place` and `put_malformed` do so without a word. `put_start`, `put_refused` and `malformed` put it into a lent slice, from its front on.
+// `put_place` and `put_malformed` do so and say nothing. `put_start`, `put_refused` and `malformed` put it into a lent slice, from its front on.
 ghost use Rattle.std.specs.Prelude.{◌≡◌, ◌≤◌, ℕ, List, [], ◌∷◌, ◌++◌, length, codes, OnOk};
 ghost use Rattle.std.specs.Fmt.{decimal};
 ghost use Rattle.units.specs.Refusals.{number_of};

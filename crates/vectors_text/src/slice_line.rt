@@ -46,7 +46,7 @@ impl<'a> SliceLine<'a> {
     }
 }
 
-// A text that has no room fills the slice.
+// A text for which there is not room enough fills the slice.
 impl Write for SliceLine<'_> {
     ghost write_str_gives = { λ before text after.
         take after.len after.slice.now ≡ take before.len before.slice.now ++ text };
@@ -68,12 +68,13 @@ impl Write for SliceLine<'_> {
     }
 }
 
-// What an answer puts into a slice, from its front on; how much it put, and no more than the slice has, whatever the answer does to its line.
+// What an answer puts into a slice, from its front on; how much it put, and no more than the slice has, should the answer turn to another slice.
 pub fn in_slice<Answer: FnOnce(&mut SliceLine)>(slice: &mut [u8], answer: Answer) -> usize
     requires { Answer.IsAlwaysCallable answer }
     ensures within { result ≤ length slice.new }
     ensures answered { (before : SliceLine) × (after : SliceLine) × (before.len ≡ 0) × (before.slice.now ≡ slice.old)
-        × FnOnceReturnsAtMut Answer.FnOnce answer before tt after × (result ≡ min after.len (length slice.new)) }
+        × FnOnceReturnsAtMut Answer.FnOnce answer before tt after × (result ≡ min after.len (length slice.new))
+        × (after.slice.ghost_name ≡ before.slice.ghost_name → slice.new ≡ after.slice.now) }
 {
     let mut line = SliceLine::new(slice);
     answer(&mut line);
