@@ -7,9 +7,9 @@ use reader::{Contents, FileRefusal};
 use std::fmt::Write;
 use units::{Plan, Workloads};
 use vectors_text::body::{count_at, head_at, is_within, number_at, numbers_from};
+use vectors_text::filling::in_slice;
 use vectors_text::line::{put_malformed, put_place, write_refused, write_start};
 use vectors_text::places::ROOM;
-use vectors_text::slice_line::in_slice;
 
 // Whether the counts of two bytes at these indexes are within the fixed places.
 fn are_within(body: &[u8], indexes: &[usize]) -> bool {

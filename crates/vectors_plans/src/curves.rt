@@ -5,9 +5,9 @@ use crate::answers::put_answer;
 use std::fmt::Write;
 use units::Requests;
 use vectors_text::body::{ends_in_twos, head_at, number_at, numbers_from};
+use vectors_text::filling::in_slice;
 use vectors_text::line::{put_malformed, put_place};
 use vectors_text::places::{ROOM, unwritten};
-use vectors_text::slice_line::in_slice;
 
 // Cores, core, Q, the mark, r, and the budgets to the body's end.
 pub fn answer_raw<W: Write>(body: &[u8], line: &mut W) {

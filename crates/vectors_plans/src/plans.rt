@@ -7,9 +7,9 @@ use span::SpanAnswer;
 use std::fmt::Write;
 use units::{Periods, Requests, Slots, Workload};
 use vectors_text::body::{head_at, number_at};
+use vectors_text::filling::in_slice;
 use vectors_text::line::{put_malformed, put_place};
 use vectors_text::places::unwritten;
-use vectors_text::slice_line::in_slice;
 
 // Cores, core, Q, the mark, requests, W, the start, the room of the place, the count of the lengths, the lengths, and the budgets to the body's end.
 pub fn answer_placement<W: Write>(body: &[u8], line: &mut W) {

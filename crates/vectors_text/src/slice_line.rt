@@ -1,82 +1,10 @@
-// A lent slice as a line: what is put into it stands from its first byte on, as far as there is room.
-ghost use Rattle.std.specs.Prelude.{◌≡◌, ◌+◌, ◌-◌, ◌≤◌, ◌++◌, ◌↔◌, IsOk, IsTrue, length, min, take, drop};
-ghost use Rattle.std.specs.Fn.{FnOnceReturnsAtMut};
+// A lent slice as a line. What is put into it stands in filling.rt, which names a definition of this struct.
+ghost use Rattle.std.specs.Prelude.{◌≤◌, length};
 
-use std::fmt;
-use std::fmt::Write;
-
-// A slice, and how many bytes were put into it.
+// A slice, and how many bytes were put into it, from its first on.
 #[derive(Drop)]
 pub struct SliceLine<'a> {
-    slice: &'a mut [u8],
-    len: usize,
+    pub(crate) slice: &'a mut [u8],
+    pub(crate) len: usize,
     ghost inside: { len ≤ length slice.now },
-}
-
-impl<'a> SliceLine<'a> {
-    // A slice into which nothing was put yet.
-    pub fn new(slice: &'a mut [u8]) -> SliceLine<'a>
-        ensures none { result.len ≡ 0 }
-        ensures lent { result.slice.ghost_name ≡ slice.entry.ghost_name }
-        ensures held { result.slice.now ≡ slice.old }
-    {
-        SliceLine { slice, len: 0 }
-    }
-
-    // How many bytes were put.
-    pub fn len(&self) -> usize
-        ensures { result ≡ self.now.len }
-    {
-        self.len
-    }
-
-    // Bytes behind those before them, as many as there is room for; whether that was all.
-    pub fn put(&mut self, bytes: &[u8]) -> bool
-        ensures lent { self.new.slice.ghost_name ≡ self.old.slice.ghost_name }
-        ensures counted { self.new.len ≡ min (self.old.len + length bytes.now) (length self.old.slice.now) }
-        ensures put { self.new.slice.now ≡ take self.old.len self.old.slice.now
-            ++ take (self.new.len - self.old.len) bytes.now ++ drop self.new.len self.old.slice.now }
-        ensures all { IsTrue result ↔ (self.old.len + length bytes.now ≤ length self.old.slice.now) }
-    {
-        let start = self.len;
-        let count = bytes.len().min(self.slice.len() - start);
-        self.slice[start..start + count].copy_from_slice(&bytes[..count]);
-        self.len = start + count;
-        count == bytes.len()
-    }
-}
-
-// A text for which there is not room enough fills the slice.
-impl Write for SliceLine<'_> {
-    ghost write_str_gives = { λ before text after.
-        take after.len after.slice.now ≡ take before.len before.slice.now ++ text };
-
-    fn write_str(&mut self, text: &str) -> fmt::Result
-        ensures ok { IsOk result → take self.new.len self.new.slice.now
-            ≡ take self.old.len self.old.slice.now ++ text.now }
-        ensures fits { IsOk result ↔ (self.old.len + length text.now ≤ length self.old.slice.now) }
-        ensures lent { self.new.slice.ghost_name ≡ self.old.slice.ghost_name }
-        ensures counted { self.new.len ≡ min (self.old.len + length text.now) (length self.old.slice.now) }
-        ensures put { self.new.slice.now ≡ take self.old.len self.old.slice.now
-            ++ take (self.new.len - self.old.len) text.now ++ drop self.new.len self.old.slice.now }
-    {
-        if self.put(text.as_bytes()) {
-            Ok(())
-        } else {
-            Err(fmt::Error)
-        }
-    }
-}
-
-// What an answer puts into a slice, from its front on; how much it put, and no more than the slice has, should the answer turn to another slice.
-pub fn in_slice<Answer: FnOnce(&mut SliceLine)>(slice: &mut [u8], answer: Answer) -> usize
-    requires { Answer.IsAlwaysCallable answer }
-    ensures within { result ≤ length slice.new }
-    ensures answered { (before : SliceLine) × (after : SliceLine) × (before.len ≡ 0) × (before.slice.now ≡ slice.old)
-        × FnOnceReturnsAtMut Answer.FnOnce answer before tt after × (result ≡ min after.len (length slice.new))
-        × (after.slice.ghost_name ≡ before.slice.ghost_name → slice.new ≡ after.slice.now) }
-{
-    let mut line = SliceLine::new(slice);
-    answer(&mut line);
-    line.len().min(slice.len())
 }

@@ -1,7 +1,7 @@
 -- The line is new before the answer, and its length is read behind it; where it is still on the slice, the slice has what it holds.
 use Rattle.std.proofs.Common.{arith, rules}
 use Rattle.std.proofs.lemmas.Grind.{common_steps}
-use Rattle.vectors_text.proofs.slice_line.in_slice.Goals as goal
+use Rattle.vectors_text.proofs.filling.in_slice.Goals as goal
 
 pub returns-clause-answered : goal.returns-clause-answered
 returns-clause-answered g c = (
