@@ -7,13 +7,14 @@ use Rattle.meaning.specs.Curve.{Corner, Curve, Rising, Climbing, Concave}
 use Rattle.meaning.specs.Plan.{sum_of}
 use Rattle.number_laws.specs.Lists.{list_from, list_length}
 use Rattle.number_laws.specs.Order.{le_or_lt, eq_or_ne}
-use Rattle.placement_laws.specs.Filling.{Pick, Picked, Next, Order, stepped_from, advance, advance_same, advance_other, picked_run}
+use Rattle.placement_laws.specs.Filling.{Pick, Picked, Next, Order, stepped_from, advance, advance_all, advance_same, advance_other, picked_run}
 use Rattle.placement_laws.specs.OrderMerged.{Up, none, within, within_inside, within_after, order_interval, order_joined, merged, picks_from}
 use Rattle.units.specs.declared.corner.Block.{Block}
 use Rattle.segments.specs.Blocks.{curve_at, Curves}
 use Rattle.segments.specs.Listed.{groups_of, interval_picks, Listed}
 use Rattle.std.specs.List.{AllByRecursion}
-use Rattle.segments.specs.Picks.{pick_of, picks_of}
+use Rattle.segments.specs.Picks.{pick_of, picks_of, SmallRises}
+use Rattle.segments.specs.SmallRises.{SmallStalls, curve_small}
 use Rattle.segments.specs.declared.segment.Segment.{Segment}
 use Rattle.order.specs.Groups.{Orders, paired, Levelled}
 
@@ -290,3 +291,32 @@ module _ {n : ℕ} {curve : ℕ → Curve} {segments : List Segment} {counts : L
         runs = every_map (picks_of segments) (λ s h. h.0) good;
         inside = every_map (picks_of segments) (λ s h. h.1) good;
       }
+
+-- where the stalls of corners that are left have 16 bits, so have those of them that are left when a segment is taken
+stepped_small : (a : Corner) (cs : List Corner) → SmallStalls cs → SmallStalls (stepped_from a cs).rest
+stepped_small a [] small = tt
+stepped_small a (b ∷ cs) small = small.1
+
+-- and so has the rise that is taken
+picked_small : (s : Pick) (a : Corner) (cs : List Corner) → SmallStalls cs → Picked s a cs → s.rise ≤ 65_535
+picked_small s a [] small picked = absurd picked
+picked_small s a (b ∷ cs) small picked = omega (arith, picked.1, small.0)
+
+-- and every rise of an order
+order_small : (now : ℕ → Curve) (o : List Pick) → ((i : ℕ) → SmallStalls (now i).rest) → Order now o → SmallRises o
+order_small now [] small order = tt
+order_small now (s ∷ o) small order =
+    let k = s.interval in
+    let stepped = stepped_small (now k).first (now k).rest (small k) in (
+      picked_small s (now k).first (now k).rest (small k) order.0.picked,
+      order_small (advance k now) o (advance_all (λ i c. SmallStalls c.rest) k now stepped small) order.1,
+    )
+
+-- so the rises of the segments of blocks in the order of filling
+pub ordered_small : (n : ℕ) (blocks : List Block) {segments : List Segment} → Orders n (curve_at blocks) segments → SmallRises (picks_of segments)
+ordered_small n blocks {segments} orders =
+    order_small
+    (within 0 n (curve_at blocks))
+    (picks_of segments)
+    (within_known (λ c. SmallStalls c.rest) n (curve_at blocks) (λ i inside. curve_small blocks i) tt)
+    orders.order

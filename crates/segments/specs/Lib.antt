@@ -3,3 +3,4 @@ pub mod Picks
 pub mod Listed
 pub mod Corners
 pub mod SegmentLists
+pub mod SmallRises

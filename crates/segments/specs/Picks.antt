@@ -18,6 +18,10 @@ picks_of segments = map pick_of segments
 abbrev pub Runs : List Pick → Type 0
 Runs = AllByRecursion (λ s. 1 ≤ s.run)
 
+-- every rise has 16 bits
+abbrev pub SmallRises : List Pick → Type 0
+SmallRises = AllByRecursion (λ s. s.rise ≤ 65_535)
+
 -- every interval is one of the first n
 abbrev pub Inside : ℕ → List Pick → Type 0
 Inside n = AllByRecursion (λ s. s.interval < n)

@@ -12,7 +12,8 @@ use Rattle.meaning.specs.Plan.{most_intervals, most_work}
 use Rattle.number_laws.specs.Lists.{sum_from}
 use Rattle.placement_laws.specs.Filling.{base_stall, Pick, Walk, walk, raised}
 use Rattle.placement_laws.specs.FillingAnswers.{walk_stall, filled_stall}
-use Rattle.segments.specs.Picks.{Runs}
+use Rattle.std.specs.List.{AllByRecursion}
+use Rattle.segments.specs.Picks.{Runs, SmallRises}
 
 -- the number of an interval, counted from 0: its share among the shares, its base among the bases
 abbrev pub number_at : List ℕ → ℕ → ℕ
@@ -72,22 +73,40 @@ module _ {share base : ℕ → ℕ} {n stall i : ℕ} (now : Summed share base n
       let none : n - i ≡ 0 = omega (arith, done) in
       omega (arith, now.rest, ap (λ (m : ℕ). sum_from i m (λ j. share j * base j)) none)
 
--- where a walk for n intervals stands: the whole stall of the bases and the first k segments, the requests that are left, and the segments to do
-pub record Walked (share base : ℕ → ℕ) (n : ℕ) (o : List Pick) (requests whole left k : ℕ) (todo : List Pick) : Type 0 where
-  pub bound : whole ≤ most_intervals * most_work + k * 281_470_681_677_825
+-- where a walk for n intervals stands: the whole stall of the bases and the first k segments, none of more than `most`, the requests that
+-- are left, and the segments to do
+pub record WalkedBy (most : ℕ) (share base : ℕ → ℕ) (n : ℕ) (o : List Pick) (requests whole left k : ℕ) (todo : List Pick) : Type 0 where
+  pub bound : whole ≤ most_intervals * most_work + k * most
   pub low : requests ≤ 4_294_967_295
   pub fits : left ≤ requests
   pub runs : Runs todo
   pub rest : raised (base_stall n share base) (walk share o requests) ≡ raised whole (walk share todo left)
 
+-- where it stands with shares and rises of 16 bits
+abbrev pub Walked : (ℕ → ℕ) → (ℕ → ℕ) → ℕ → List Pick → ℕ → ℕ → ℕ → ℕ → List Pick → Type 0
+Walked = WalkedBy 4_294_836_225
+
+-- and with rises of 32 bits
+abbrev pub WalkedWide : (ℕ → ℕ) → (ℕ → ℕ) → ℕ → List Pick → ℕ → ℕ → ℕ → ℕ → List Pick → Type 0
+WalkedWide = WalkedBy 281_470_681_677_825
+
+-- each whole segment has no more stall than a share and a rise of 16 bits make
+abbrev pub SmallSegments : (ℕ → ℕ) → List Pick → Type 0
+SmallSegments share = AllByRecursion (λ s. share s.interval * s.rise ≤ 4_294_836_225)
+
+-- so it is where shares and rises have 16 bits, as in every plan
+pub small_segments : (share : ℕ → ℕ) (o : List Pick) → ((i : ℕ) → share i ≤ 65_535) → SmallRises o → SmallSegments share o
+small_segments share [] shares rises = tt
+small_segments share (s ∷ o) shares rises = (mul-le-mul (shares s.interval) rises.0, small_segments share o shares rises.1)
+
 -- no segment is filled yet
-pub walked_none : {share base : ℕ → ℕ} {n : ℕ} (o : List Pick) {requests whole : ℕ}
+pub walked_none : {most : ℕ} {share base : ℕ → ℕ} {n : ℕ} (o : List Pick) {requests whole : ℕ}
     → Runs o
     → requests ≤ 4_294_967_295
     → whole ≡ base_stall n share base
     → whole ≤ most_intervals * most_work
-    → Walked share base n o requests whole requests 0 o
-walked_none {share} {base} {n} o {requests} {whole} runs low e few =
+    → WalkedBy most share base n o requests whole requests 0 o
+walked_none {most} {share} {base} {n} o {requests} {whole} runs low e few =
     record {
       bound = omega (arith, few);
       low = low;
@@ -97,12 +116,12 @@ walked_none {share} {base} {n} o {requests} {whole} runs low e few =
     }
 
 -- the requests run out in the next segment
-pub walked_stop : {share base : ℕ → ℕ} {n : ℕ} {o : List Pick} {requests whole left k : ℕ} {next : Pick} {later : List Pick}
-    → Walked share base n o requests whole left k (next ∷ later)
+pub walked_stop : {most : ℕ} {share base : ℕ → ℕ} {n : ℕ} {o : List Pick} {requests whole left k : ℕ} {next : Pick} {later : List Pick}
+    → WalkedBy most share base n o requests whole left k (next ∷ later)
     → left ≤ share next.interval * next.run
     → round_up (filled_stall n share base o requests) ≡ whole + round_up (record { num = left * next.rise; den = next.run })
 unfolding walk round_up
-walked_stop {share} {whole = whole} {left = left} {next = next} now fits =
+walked_stop {share = share} {whole = whole} {left = left} {next = next} now fits =
     let stop : Walk = record { whole = 0; left = left; rise = next.rise; run = next.run } in
     let step = rw (le-leb left (share next.interval * next.run) fits) at now.rest in
     let sum :
@@ -113,17 +132,17 @@ walked_stop {share} {whole = whole} {left = left} {next = next} now fits =
     ∙ mul-add-div_right now.runs.0 whole (left * next.rise + (next.run - 1))
 
 -- the next segment is filled whole
-pub walked_more : {share base : ℕ → ℕ} {n : ℕ} {o : List Pick} {requests whole left k : ℕ} {next : Pick} {later : List Pick}
-    → Walked share base n o requests whole left k (next ∷ later)
-    → share next.interval * next.rise ≤ 281_470_681_677_825
+pub walked_more : {most : ℕ} {share base : ℕ → ℕ} {n : ℕ} {o : List Pick} {requests whole left k : ℕ} {next : Pick} {later : List Pick}
+    → WalkedBy most share base n o requests whole left k (next ∷ later)
+    → share next.interval * next.rise ≤ most
     → share next.interval * next.run < left
-    → Walked share base n o requests (whole + share next.interval * next.rise) (left - share next.interval * next.run) (k + 1) later
+    → WalkedBy most share base n o requests (whole + share next.interval * next.rise) (left - share next.interval * next.run) (k + 1) later
 unfolding walk
-walked_more {share} {whole = whole} {left = left} {next = next} {later = later} now most enough =
+walked_more {share = share} {whole = whole} {left = left} {next = next} {later = later} now fits enough =
     let weight = share next.interval in
     let after = walk share later (left - weight * next.run) in
     record {
-      bound = omega (arith, now.bound, most);
+      bound = omega (arith, now.bound, fits);
       low = now.low;
       fits = omega (arith, now.fits);
       runs = now.runs.1;
@@ -138,9 +157,35 @@ walked_more {share} {whole = whole} {left = left} {next = next} {later = later} 
           });
     }
 
+-- where it stands with any segments: with rises of 32 bits, and where no whole segment has more stall than with 16, as with these
+abbrev pub Walking : (share base : ℕ → ℕ) (n : ℕ) (o : List Pick) (requests whole left k : ℕ) (todo : List Pick) → Type 0
+Walking share base n o requests whole left k todo =
+    WalkedWide share base n o requests whole left k todo
+    × (SmallSegments share o → Walked share base n o requests whole left k todo × SmallSegments share todo)
+
+-- no segment is filled yet
+pub walking_none : {share base : ℕ → ℕ} {n : ℕ} (o : List Pick) {requests whole : ℕ}
+    → Runs o
+    → requests ≤ 4_294_967_295
+    → whole ≡ base_stall n share base
+    → whole ≤ most_intervals * most_work
+    → Walking share base n o requests whole requests 0 o
+walking_none o runs low e few = (walked_none o runs low e few, λ small. (walked_none o runs low e few, small))
+
+-- the next segment is filled whole
+pub walking_more : {share base : ℕ → ℕ} {n : ℕ} {o : List Pick} {requests whole left k : ℕ} {next : Pick} {later : List Pick}
+    → Walking share base n o requests whole left k (next ∷ later)
+    → share next.interval * next.rise ≤ 281_470_681_677_825
+    → share next.interval * next.run < left
+    → Walking share base n o requests (whole + share next.interval * next.rise) (left - share next.interval * next.run) (k + 1) later
+walking_more now fits enough = (
+  walked_more now.0 fits enough,
+  λ small. let here = now.1 small in (walked_more here.0 here.1.0 enough, here.1.1),
+)
+
 -- all segments are filled
-pub walked_all : {share base : ℕ → ℕ} {n : ℕ} {o : List Pick} {requests whole left k : ℕ}
-    → Walked share base n o requests whole left k []
+pub walked_all : {most : ℕ} {share base : ℕ → ℕ} {n : ℕ} {o : List Pick} {requests whole left k : ℕ}
+    → WalkedBy most share base n o requests whole left k []
     → round_up (filled_stall n share base o requests) ≡ whole
 unfolding walk round_up
 walked_all {whole = whole} {left = left} now =
