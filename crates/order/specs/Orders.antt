@@ -84,13 +84,23 @@ next_good n now s left next =
           (le_or_lt n k),
     )
 
--- and so is every segment of an order
-order_good : (n : ℕ) (now : ℕ → Curve) (o : List Pick) → ((i : ℕ) → Left n i (now i)) → Order now o → AllByRecursion (Good n) o
-order_good n now [] left order = tt
-order_good n now (s ∷ o) left order = (
-  next_good n now s left order.0,
-  order_good n (advance s.interval now) o (advance_left n s.interval now left) order.1,
+-- what holds of the next segment, whichever have gone before, holds of every segment of an order
+order_every : (L : ℕ → Curve → Type 0) (P : Pick → Type 0)
+    → ((k : ℕ) (now : ℕ → Curve) → ((i : ℕ) → L i (now i)) → (i : ℕ) → L i (advance k now i))
+    → ((now : ℕ → Curve) (s : Pick) → ((i : ℕ) → L i (now i)) → Next now s → P s)
+    → (now : ℕ → Curve) (o : List Pick)
+    → ((i : ℕ) → L i (now i))
+    → Order now o
+    → AllByRecursion P o
+order_every L P further next now [] left order = tt
+order_every L P further next now (s ∷ o) left order = (
+  next now s left order.0,
+  order_every L P further next (advance s.interval now) o (further s.interval now left) order.1,
 )
+
+-- so every segment of an order is such a one
+order_good : (n : ℕ) (now : ℕ → Curve) (o : List Pick) → ((i : ℕ) → Left n i (now i)) → Order now o → AllByRecursion (Good n) o
+order_good n = order_every (Left n) (Good n) (advance_left n) (next_good n)
 
 -- what holds of every segment, said otherwise
 every_map : {P Q : Pick → Type 0} (o : List Pick) → ((s : Pick) → P s → Q s) → AllByRecursion P o → AllByRecursion Q o
@@ -292,27 +302,26 @@ module _ {n : ℕ} {curve : ℕ → Curve} {segments : List Segment} {counts : L
         inside = every_map (picks_of segments) (λ s h. h.1) good;
       }
 
--- where the stalls of corners that are left have 16 bits, so have those of them that are left when a segment is taken
+-- where the stalls of a curve's further corners have 16 bits, they have without its first segment
 stepped_small : (a : Corner) (cs : List Corner) → SmallStalls cs → SmallStalls (stepped_from a cs).rest
 stepped_small a [] small = tt
 stepped_small a (b ∷ cs) small = small.1
 
--- and so has the rise that is taken
+-- and the rise of that segment has
 picked_small : (s : Pick) (a : Corner) (cs : List Corner) → SmallStalls cs → Picked s a cs → s.rise ≤ 65_535
 picked_small s a [] small picked = absurd picked
 picked_small s a (b ∷ cs) small picked = omega (arith, picked.1, small.0)
 
--- and every rise of an order
-order_small : (now : ℕ → Curve) (o : List Pick) → ((i : ℕ) → SmallStalls (now i).rest) → Order now o → SmallRises o
-order_small now [] small order = tt
-order_small now (s ∷ o) small order =
-    let k = s.interval in
-    let stepped = stepped_small (now k).first (now k).rest (small k) in (
-      picked_small s (now k).first (now k).rest (small k) order.0.picked,
-      order_small (advance k now) o (advance_all (λ i c. SmallStalls c.rest) k now stepped small) order.1,
-    )
+-- so every rise of an order has
+pub order_small : (now : ℕ → Curve) (o : List Pick) → ((i : ℕ) → SmallStalls (now i).rest) → Order now o → SmallRises o
+order_small =
+    order_every
+    (λ i c. SmallStalls c.rest)
+    (λ s. s.rise ≤ 65_535)
+    (λ k now small. advance_all (λ i c. SmallStalls c.rest) k now (stepped_small (now k).first (now k).rest (small k)) small)
+    (λ now s small next. picked_small s (now s.interval).first (now s.interval).rest (small s.interval) next.picked)
 
--- so the rises of the segments of blocks in the order of filling
+-- and every rise of the segments of blocks in the order of filling
 pub ordered_small : (n : ℕ) (blocks : List Block) {segments : List Segment} → Orders n (curve_at blocks) segments → SmallRises (picks_of segments)
 ordered_small n blocks {segments} orders =
     order_small

@@ -10,7 +10,6 @@ use Rattle.placement_laws.specs.Filling.{Pick}
 use Rattle.placement_laws.specs.OrderMerged.{picks_from}
 use Rattle.units.specs.Given.{no_corner, corner_at}
 use Rattle.units.specs.declared.corner.Block.{Block}
-use Rattle.units.specs.declared.corner.Corner as given
 use Rattle.segments.specs.Blocks.{no_block, curve_at}
 use Rattle.segments.specs.Listed.{groups_of, interval_picks, Listed}
 use Rattle.segments.specs.Picks.{pick_of, picks_of, SmallRises}
@@ -20,37 +19,30 @@ use Rattle.segments.specs.declared.segment.Segment.{Segment}
 abbrev pub SmallStalls : List Corner → Type 0
 SmallStalls = AllByRecursion (λ corner. corner.stall ≤ 65_535)
 
--- those of some corners of a block have
-corners_small : (corners : List given.Corner) (k n : ℕ) → SmallStalls (list_from k n (corner_at corners))
+-- what holds of each f j holds of all in their list
+each_of : {A : Type 0} (P : A → Type 0) (f : ℕ → A) → ((j : ℕ) → P (f j)) → (i n : ℕ) → AllByRecursion P (list_from i n f)
 unfolding list_from
-corners_small corners k zero = tt
-corners_small corners k (suc n) = ((get_or corners k no_corner).small_stall, corners_small corners (suc k) n)
+each_of P f each i zero = tt
+each_of P f each i (suc n) = (each i, each_of P f each (suc i) n)
 
--- and those of an interval's curve behind its first corner
+-- the corners of an interval's curve behind its first have such stalls, since each corner has
 pub curve_small : (blocks : List Block) (i : ℕ) → SmallStalls (curve_at blocks i).rest
-curve_small blocks i = let block = get_or blocks i no_block in corners_small block.corners 1 (block.count - 1)
+curve_small blocks i =
+    let block = get_or blocks i no_block in
+    each_of (λ corner. corner.stall ≤ 65_535) (corner_at block.corners) (λ j. (get_or block.corners j no_corner).small_stall) 1 (block.count - 1)
 
--- so have the rises from corner to corner
+-- the rises from corner to corner are no greater than the stalls
 picks_small : (i : ℕ) (a : Corner) (cs : List Corner) → SmallStalls cs → SmallRises (picks_from i a cs)
 unfolding picks_from
 picks_small i a [] small = tt
 picks_small i a (b ∷ cs) small = (omega (arith, small.0), picks_small i b cs small.1)
 
--- those of each interval
-intervals_small : (blocks : List Block) (i n : ℕ) → AllByRecursion SmallRises (list_from i n (interval_picks (curve_at blocks)))
-unfolding list_from
-intervals_small blocks i zero = tt
-intervals_small blocks i (suc n) = (
-  picks_small i (curve_at blocks i).first (curve_at blocks i).rest (curve_small blocks i),
-  intervals_small blocks (suc i) n,
-)
-
--- one list of them behind another
+-- two lists of rises of 16 bits, one behind the other, are one
 append_small : (xs ys : List Pick) → SmallRises xs → SmallRises ys → SmallRises (xs ++ ys)
 append_small [] ys small later = later
 append_small (x ∷ xs) ys small later = (small.0, append_small xs ys small.1 later)
 
--- and those of groups, all together
+-- and so are groups
 groups_small : (counts : List ℕ) (xs : List Pick) → sum_of counts ≡ length xs → AllByRecursion SmallRises (groups_of counts xs) → SmallRises xs
 unfolding groups_of
 groups_small [] [] whole small = tt
@@ -61,7 +53,7 @@ groups_small (n ∷ counts) xs whole small =
     (take-append-drop n xs)
     (append_small (take n xs) (drop n xs) small.0 (groups_small counts (drop n xs) (omega (arith, whole, length-drop n xs)) small.1))
 
--- so those of all intervals, one interval after another
+-- so the segments of all intervals, one interval's after another's, have rises of 16 bits
 pub listed_small : (n : ℕ) (blocks : List Block) {segments : List Segment} {counts : List ℕ}
     → Listed n (curve_at blocks) segments counts
     → SmallRises (picks_of segments)
@@ -70,4 +62,5 @@ listed_small n blocks {segments} {counts} listed =
     counts
     (picks_of segments)
     (omega (arith, listed.whole, length-map segments pick_of))
-    (subst (AllByRecursion SmallRises) (sym listed.groups) (intervals_small blocks 0 n))
+    (subst (AllByRecursion SmallRises) (sym listed.groups)
+    (each_of SmallRises (interval_picks (curve_at blocks)) (λ i. picks_small i (curve_at blocks i).first (curve_at blocks i).rest (curve_small blocks i)) 0 n))

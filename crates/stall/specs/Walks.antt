@@ -73,8 +73,8 @@ module _ {share base : ℕ → ℕ} {n stall i : ℕ} (now : Summed share base n
       let none : n - i ≡ 0 = omega (arith, done) in
       omega (arith, now.rest, ap (λ (m : ℕ). sum_from i m (λ j. share j * base j)) none)
 
--- where a walk for n intervals stands: the whole stall of the bases and the first k segments, none of more than `most`, the requests that
--- are left, and the segments to do
+-- where a walk for n intervals stands: the whole stall of the bases and the first k segments, bounded by so much for each segment, the
+-- requests that are left, and the segments to do
 pub record WalkedBy (most : ℕ) (share base : ℕ → ℕ) (n : ℕ) (o : List Pick) (requests whole left k : ℕ) (todo : List Pick) : Type 0 where
   pub bound : whole ≤ most_intervals * most_work + k * most
   pub low : requests ≤ 4_294_967_295
@@ -157,7 +157,8 @@ walked_more {share = share} {whole = whole} {left = left} {next = next} {later =
           });
     }
 
--- where it stands with any segments: with rises of 32 bits, and where no whole segment has more stall than with 16, as with these
+-- where the walk of an order stands: as with rises of 32 bits; and also as with rises of 16 bits, where the whole order has no more stall
+-- in any segment than these allow
 abbrev pub Walking : (share base : ℕ → ℕ) (n : ℕ) (o : List Pick) (requests whole left k : ℕ) (todo : List Pick) → Type 0
 Walking share base n o requests whole left k todo =
     WalkedWide share base n o requests whole left k todo
