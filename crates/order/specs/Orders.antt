@@ -84,7 +84,7 @@ next_good n now s left next =
           (le_or_lt n k),
     )
 
--- what holds of the next segment, whichever have gone before, holds of every segment of an order
+-- where all curves that are left are such, and stay such as intervals go on, what holds of the next segment holds of every segment of an order
 order_every : (L : ℕ → Curve → Type 0) (P : Pick → Type 0)
     → ((k : ℕ) (now : ℕ → Curve) → ((i : ℕ) → L i (now i)) → (i : ℕ) → L i (advance k now i))
     → ((now : ℕ → Curve) (s : Pick) → ((i : ℕ) → L i (now i)) → Next now s → P s)
@@ -302,17 +302,17 @@ module _ {n : ℕ} {curve : ℕ → Curve} {segments : List Segment} {counts : L
         inside = every_map (picks_of segments) (λ s h. h.1) good;
       }
 
--- where the stalls of a curve's further corners have 16 bits, they have without its first segment
+-- where the stalls of a curve's further corners have 16 bits, so have those of the curve without its first segment
 stepped_small : (a : Corner) (cs : List Corner) → SmallStalls cs → SmallStalls (stepped_from a cs).rest
 stepped_small a [] small = tt
 stepped_small a (b ∷ cs) small = small.1
 
--- and the rise of that segment has
+-- and that segment's rise has 16 bits
 picked_small : (s : Pick) (a : Corner) (cs : List Corner) → SmallStalls cs → Picked s a cs → s.rise ≤ 65_535
 picked_small s a [] small picked = absurd picked
 picked_small s a (b ∷ cs) small picked = omega (arith, picked.1, small.0)
 
--- so every rise of an order has
+-- so every rise of an order has 16 bits
 pub order_small : (now : ℕ → Curve) (o : List Pick) → ((i : ℕ) → SmallStalls (now i).rest) → Order now o → SmallRises o
 order_small =
     order_every
@@ -321,7 +321,7 @@ order_small =
     (λ k now small. advance_all (λ i c. SmallStalls c.rest) k now (stepped_small (now k).first (now k).rest (small k)) small)
     (λ now s small next. picked_small s (now s.interval).first (now s.interval).rest (small s.interval) next.picked)
 
--- and every rise of the segments of blocks in the order of filling
+-- and every rise of the segments of blocks in the order of filling has
 pub ordered_small : (n : ℕ) (blocks : List Block) {segments : List Segment} → Orders n (curve_at blocks) segments → SmallRises (picks_of segments)
 ordered_small n blocks {segments} orders =
     order_small

@@ -25,24 +25,24 @@ unfolding list_from
 each_of P f each i zero = tt
 each_of P f each i (suc n) = (each i, each_of P f each (suc i) n)
 
--- the corners of an interval's curve behind its first have such stalls, since each corner has
+-- the corners of an interval's curve behind its first have stalls of 16 bits, since every corner has
 pub curve_small : (blocks : List Block) (i : ℕ) → SmallStalls (curve_at blocks i).rest
 curve_small blocks i =
     let block = get_or blocks i no_block in
     each_of (λ corner. corner.stall ≤ 65_535) (corner_at block.corners) (λ j. (get_or block.corners j no_corner).small_stall) 1 (block.count - 1)
 
--- the rises from corner to corner are no greater than the stalls
+-- where they have, the rises from corner to corner have 16 bits, since none is greater than a stall
 picks_small : (i : ℕ) (a : Corner) (cs : List Corner) → SmallStalls cs → SmallRises (picks_from i a cs)
 unfolding picks_from
 picks_small i a [] small = tt
 picks_small i a (b ∷ cs) small = (omega (arith, small.0), picks_small i b cs small.1)
 
--- two lists of rises of 16 bits, one behind the other, are one
+-- two lists of segments with such rises, one behind the other, make one
 append_small : (xs ys : List Pick) → SmallRises xs → SmallRises ys → SmallRises (xs ++ ys)
 append_small [] ys small later = later
 append_small (x ∷ xs) ys small later = (small.0, append_small xs ys small.1 later)
 
--- and so are groups
+-- and so do groups
 groups_small : (counts : List ℕ) (xs : List Pick) → sum_of counts ≡ length xs → AllByRecursion SmallRises (groups_of counts xs) → SmallRises xs
 unfolding groups_of
 groups_small [] [] whole small = tt

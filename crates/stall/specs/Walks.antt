@@ -12,7 +12,6 @@ use Rattle.meaning.specs.Plan.{most_intervals, most_work}
 use Rattle.number_laws.specs.Lists.{sum_from}
 use Rattle.placement_laws.specs.Filling.{base_stall, Pick, Walk, walk, raised}
 use Rattle.placement_laws.specs.FillingAnswers.{walk_stall, filled_stall}
-use Rattle.std.specs.List.{AllByRecursion}
 use Rattle.segments.specs.Picks.{Runs, SmallRises}
 
 -- the number of an interval, counted from 0: its share among the shares, its base among the bases
@@ -90,15 +89,6 @@ Walked = WalkedBy 4_294_836_225
 abbrev pub WalkedWide : (ℕ → ℕ) → (ℕ → ℕ) → ℕ → List Pick → ℕ → ℕ → ℕ → ℕ → List Pick → Type 0
 WalkedWide = WalkedBy 281_470_681_677_825
 
--- each whole segment has no more stall than a share and a rise of 16 bits make
-abbrev pub SmallSegments : (ℕ → ℕ) → List Pick → Type 0
-SmallSegments share = AllByRecursion (λ s. share s.interval * s.rise ≤ 4_294_836_225)
-
--- so it is where shares and rises have 16 bits, as in every plan
-pub small_segments : (share : ℕ → ℕ) (o : List Pick) → ((i : ℕ) → share i ≤ 65_535) → SmallRises o → SmallSegments share o
-small_segments share [] shares rises = tt
-small_segments share (s ∷ o) shares rises = (mul-le-mul (shares s.interval) rises.0, small_segments share o shares rises.1)
-
 -- no segment is filled yet
 pub walked_none : {most : ℕ} {share base : ℕ → ℕ} {n : ℕ} (o : List Pick) {requests whole : ℕ}
     → Runs o
@@ -157,12 +147,11 @@ walked_more {share = share} {whole = whole} {left = left} {next = next} {later =
           });
     }
 
--- where the walk of an order stands: as with rises of 32 bits; and also as with rises of 16 bits, where the whole order has no more stall
--- in any segment than these allow
+-- where the walk of an order stands: as with rises of 32 bits; and also as with rises of 16 bits, where all rises of the order have no more
 abbrev pub Walking : (share base : ℕ → ℕ) (n : ℕ) (o : List Pick) (requests whole left k : ℕ) (todo : List Pick) → Type 0
 Walking share base n o requests whole left k todo =
     WalkedWide share base n o requests whole left k todo
-    × (SmallSegments share o → Walked share base n o requests whole left k todo × SmallSegments share todo)
+    × (SmallRises o → Walked share base n o requests whole left k todo × SmallRises todo)
 
 -- no segment is filled yet
 pub walking_none : {share base : ℕ → ℕ} {n : ℕ} (o : List Pick) {requests whole : ℕ}
@@ -176,12 +165,13 @@ walking_none o runs low e few = (walked_none o runs low e few, λ small. (walked
 -- the next segment is filled whole
 pub walking_more : {share base : ℕ → ℕ} {n : ℕ} {o : List Pick} {requests whole left k : ℕ} {next : Pick} {later : List Pick}
     → Walking share base n o requests whole left k (next ∷ later)
+    → share next.interval ≤ 65_535
     → share next.interval * next.rise ≤ 281_470_681_677_825
     → share next.interval * next.run < left
     → Walking share base n o requests (whole + share next.interval * next.rise) (left - share next.interval * next.run) (k + 1) later
-walking_more now fits enough = (
+walking_more now low fits enough = (
   walked_more now.0 fits enough,
-  λ small. let here = now.1 small in (walked_more here.0 here.1.0 enough, here.1.1),
+  λ small. let here = now.1 small in (walked_more here.0 (mul-le-mul low here.1.0) enough, here.1.1),
 )
 
 -- all segments are filled

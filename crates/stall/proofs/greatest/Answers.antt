@@ -1,4 +1,4 @@
-use Rattle.std.proofs.Common.{◌∙◌, ◌+◌, ℕ, sym, ap, arith, drop_of_length-le}
+use Rattle.std.proofs.Common.{◌∙◌, ◌+◌, ◌≤◌, ℕ, sym, ap, arith, drop_of_length-le}
 use Rattle.units.specs.Units.{slots_of}
 use Rattle.segments.specs.Picks.{picks_of, next_pick}
 use Rattle.stall.specs.Walks.{part_fits, walking_none, walking_more, walked_stop, walked_all}
@@ -36,10 +36,11 @@ pub loop-segment-preserved : goal.loop-segment-preserved
 loop-segment-preserved c =
     let s = c.segment-item in
     let share = c.share_of-share.ensures in
+    let low : c.share_of-share.result ≤ 65_535 = omega arith in
     let room = c.room-room.ensures.0 in
     let here = rw (next_pick _ c.loop-segment.segment-index s.result c.loop-segment-test.true s.is) at c.loop-segment.invariant in
     rw (room, c.risen-risen.ensures.0, share)
-    (walking_more here (rw (c.risen-risen.ensures.0, share) at c.risen-risen.ensures.1) (rw (c.from.ensures, room, share) at c.if-from-room.false))
+    (walking_more here (rw share at low) (rw (c.risen-risen.ensures.0, share) at c.risen-risen.ensures.1) (rw (c.from.ensures, room, share) at c.if-from-room.false))
 
 pub returns : goal.returns
 returns c =
