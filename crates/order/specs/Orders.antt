@@ -84,7 +84,8 @@ next_good n now s left next =
           (le_or_lt n k),
     )
 
--- where all curves that are left are such, and stay such as intervals go on, what holds of the next segment holds of every segment of an order
+-- where something holds of all curves, also after any of them has gone on, and gives something of the next segment, that holds of every segment
+-- of an order
 order_every : (L : ℕ → Curve → Type 0) (P : Pick → Type 0)
     → ((k : ℕ) (now : ℕ → Curve) → ((i : ℕ) → L i (now i)) → (i : ℕ) → L i (advance k now i))
     → ((now : ℕ → Curve) (s : Pick) → ((i : ℕ) → L i (now i)) → Next now s → P s)
@@ -98,7 +99,7 @@ order_every L P further next now (s ∷ o) left order = (
   order_every L P further next (advance s.interval now) o (further s.interval now left) order.1,
 )
 
--- so every segment of an order is such a one
+-- so every segment of an order has a run of at least 1, and is of one of the first n intervals
 order_good : (n : ℕ) (now : ℕ → Curve) (o : List Pick) → ((i : ℕ) → Left n i (now i)) → Order now o → AllByRecursion (Good n) o
 order_good n = order_every (Left n) (Good n) (advance_left n) (next_good n)
 
@@ -312,7 +313,7 @@ picked_small : (s : Pick) (a : Corner) (cs : List Corner) → SmallStalls cs →
 picked_small s a [] small picked = absurd picked
 picked_small s a (b ∷ cs) small picked = omega (arith, picked.1, small.0)
 
--- so every rise of an order has 16 bits
+-- so every rise of an order has 16 bits, where the further corners of all curves have
 pub order_small : (now : ℕ → Curve) (o : List Pick) → ((i : ℕ) → SmallStalls (now i).rest) → Order now o → SmallRises o
 order_small =
     order_every

@@ -147,7 +147,17 @@ walked_more {share = share} {whole = whole} {left = left} {next = next} {later =
           });
     }
 
--- where the walk of an order stands: as with rises of 32 bits; and also as with rises of 16 bits, where all rises of the order have no more
+-- all segments are filled
+pub walked_all : {most : ℕ} {share base : ℕ → ℕ} {n : ℕ} {o : List Pick} {requests whole left k : ℕ}
+    → WalkedBy most share base n o requests whole left k []
+    → round_up (filled_stall n share base o requests) ≡ whole
+unfolding walk round_up
+walked_all {whole = whole} {left = left} now =
+    let sum : (whole + 0) * 1 + left * 0 + (1 - 1) ≡ whole = omega arith in
+    ap (λ (w : Walk). round_up (walk_stall w)) now.rest ∙ ap (λ (n : ℕ). n / 1) sum ∙ div-one whole
+
+-- where the walk of an order stands: as with rises of 32 bits; and where all rises of the order have 16 bits, as with these, and so have those
+-- of the segments to do
 abbrev pub Walking : (share base : ℕ → ℕ) (n : ℕ) (o : List Pick) (requests whole left k : ℕ) (todo : List Pick) → Type 0
 Walking share base n o requests whole left k todo =
     WalkedWide share base n o requests whole left k todo
@@ -173,12 +183,3 @@ walking_more now low fits enough = (
   walked_more now.0 fits enough,
   λ small. let here = now.1 small in (walked_more here.0 (mul-le-mul low here.1.0) enough, here.1.1),
 )
-
--- all segments are filled
-pub walked_all : {most : ℕ} {share base : ℕ → ℕ} {n : ℕ} {o : List Pick} {requests whole left k : ℕ}
-    → WalkedBy most share base n o requests whole left k []
-    → round_up (filled_stall n share base o requests) ≡ whole
-unfolding walk round_up
-walked_all {whole = whole} {left = left} now =
-    let sum : (whole + 0) * 1 + left * 0 + (1 - 1) ≡ whole = omega arith in
-    ap (λ (w : Walk). round_up (walk_stall w)) now.rest ∙ ap (λ (n : ℕ). n / 1) sum ∙ div-one whole
